@@ -1,0 +1,17 @@
+//! Rings, fields and finite fields as traits with laws, and what holds in all of them.
+//!
+//! The meaning of a value is the value itself as contracts see it. A trait has one ghost record of operations on
+//! these data, which also says which data are values, and the laws are records of equations on values.
+#![tactic(auto)]
+
+mod field;
+mod list;
+mod memory;
+mod ring;
+mod values;
+
+pub use field::{Field, FiniteField};
+pub use list::List;
+pub use memory::NoMem;
+pub use ring::{CommRing, Domain, Ring};
+pub use values::{greatest_weight, product_is_zero};

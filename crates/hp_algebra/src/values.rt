@@ -1,0 +1,26 @@
+//! What the laws give in every ring and every domain.
+
+ghost use Rattle.std.specs.Prelude.{◌≡◌, ◌↔◌, ◌≤◌, IsTrue, All};
+
+use crate::ring::{Domain, Ring};
+
+/// The greatest weight among these values, and 0 where there are none.
+pub fn greatest_weight<R: Ring>(values: &[R]) -> u32
+    ensures values { All R.ring.IsValue values.now }
+    ensures bound { All (λ x. R.ring.weight x ≤ result) values.now }
+{
+    let mut greatest = 0;
+    for value in values {
+        greatest = value.weight().max(greatest);
+    }
+    greatest
+}
+
+/// Whether the product of the two values is zero. It is so exactly where a factor is, and no product is computed.
+pub fn product_is_zero<D: Domain>(left: &D, right: &D) -> bool
+    ensures { IsTrue result ↔ (D.ring.mul left.now right.now ≡ D.ring.zero) }
+{
+    let left_is_zero = left.is_zero();
+    let right_is_zero = right.is_zero();
+    left_is_zero || right_is_zero
+}
