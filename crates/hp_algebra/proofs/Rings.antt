@@ -1,5 +1,5 @@
 -- What follows from the laws of a ring and a domain.
-use Rattle.std.proofs.Common.{◌≡◌, ◌≢◌, ◌⊎◌, ◌↔◌, Bool, true, false, IsTrue, refl, sym, ap, subst, ◌∙◌, inl, inr}
+use Rattle.std.proofs.Common.{◌≡◌, ◌≢◌, ◌⊎◌, ◌↔◌, Bool, IsTrue, sym, ap, subst, ◌∙◌, inl, inr}
 use Rattle.hp_algebra.specs.Ring.{RingOf, IsRing, IsDomain}
 
 module _ {R : Type 0} {ring : RingOf R} (laws : IsRing ring) where

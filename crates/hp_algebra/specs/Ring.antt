@@ -87,3 +87,8 @@ abbrev pub dot_of : {R : Type 0} → RingOf R → List R → List R → R
 dot_of ring [] ys = ring.zero
 dot_of ring (x ∷ xs) [] = ring.zero
 dot_of ring (x ∷ xs) (y ∷ ys) = ring.add (ring.mul x y) (dot_of ring xs ys)
+
+-- the greatest of the weights of a list of values, and 0 where there is none
+abbrev pub greatest_weight_of : {R : Type 0} → RingOf R → List R → ℕ
+greatest_weight_of ring [] = 0
+greatest_weight_of ring (x ∷ xs) = max (ring.weight x) (greatest_weight_of ring xs)

@@ -8,6 +8,8 @@ mod field;
 mod list;
 mod memory;
 mod ring;
+#[cfg(test)]
+mod tests;
 mod values;
 
 pub use field::{Field, FiniteField};

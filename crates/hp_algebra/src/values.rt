@@ -1,17 +1,18 @@
 //! What the laws give in every ring and every domain.
 
-ghost use Rattle.std.specs.Prelude.{◌≡◌, ◌↔◌, ◌≤◌, IsTrue, All};
+ghost use Rattle.std.specs.Prelude.{◌≡◌, ◌↔◌, IsTrue, All};
+ghost use Rattle.hp_algebra.specs.Ring.{greatest_weight_of};
 
 use crate::ring::{Domain, Ring};
 
 /// The greatest weight among these values, and 0 where there are none.
 pub fn greatest_weight<R: Ring>(values: &[R]) -> u32
     ensures values { All R.ring.IsValue values.now }
-    ensures bound { All (λ x. R.ring.weight x ≤ result) values.now }
+    ensures greatest { result ≡ greatest_weight_of R.ring values.now }
 {
     let mut greatest = 0;
-    for value in values {
-        greatest = value.weight().max(greatest);
+    for k in (0..values.len()).rev() {
+        greatest = values[k].weight().max(greatest);
     }
     greatest
 }

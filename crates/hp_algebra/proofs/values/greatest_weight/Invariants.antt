@@ -1,8 +1,10 @@
-use Rattle.std.proofs.Common.{ℕ, ◌<◌, ◌≤◌, get_or}
+use Rattle.std.proofs.Common.{◌≡◌, ◌≤◌, All, length, drop}
+use Rattle.hp_algebra.specs.Ring.{greatest_weight_of}
 use Rattle.hp_algebra.proofs.values.greatest_weight.Given as goal
 
-abbrev pub invariant-loop-value : goal.invariant-loop-value
-invariant-loop-value g l = record {
-  values : (k : ℕ) (d : g.row.R.Denot) → k < l.value-index → g.R.Ring.ring.IsValue (get_or l.values k d);
-  bound : (k : ℕ) (d : g.row.R.Denot) → k < l.value-index → g.R.Ring.ring.weight (get_or l.values k d) ≤ l.greatest;
+abbrev pub invariant-loop-k : goal.invariant-loop-k
+invariant-loop-k g l = record {
+  within : l.k ≤ length l.values;
+  values : All g.R.Ring.ring.IsValue (drop l.k l.values);
+  greatest : l.greatest ≡ greatest_weight_of g.R.Ring.ring (drop l.k l.values);
 }

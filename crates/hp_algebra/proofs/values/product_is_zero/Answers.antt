@@ -1,4 +1,4 @@
-use Rattle.std.proofs.Common.{◌≡◌, ◌↔◌, ◌⊎◌, IsTrue, sym, ◌∙◌, inl, inr, rules}
+use Rattle.std.proofs.Common.{sym, ◌∙◌, inl, inr}
 use Rattle.std.proofs.lemmas.Bool.{false≢true}
 use Rattle.hp_algebra.proofs.Rings.{product_test}
 use Rattle.hp_algebra.proofs.values.product_is_zero.Goals as goal

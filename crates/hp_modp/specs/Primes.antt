@@ -1,0 +1,8 @@
+-- Prime numbers.
+use Rattle.std.specs.Prelude.{◌≡◌, ℕ, ◌<◌, ◌⊎◌}
+use Rattle.std.specs.Int.{◌∣◌}
+
+-- no divisors but 1 and itself
+pub record IsPrime (p : ℕ) : Type 0 where
+  pub above_one : 1 < p
+  pub divisors : (d : ℕ) → d ∣ p → (d ≡ 1) ⊎ (d ≡ p)

@@ -1,0 +1,76 @@
+//! The calls of `Gf` at 31, compared with residues worked by hand, and the generic calls of the algebra at this field.
+
+use crate::{Gf, P31};
+use hp_algebra::{Domain, Field, FiniteField, Ring, greatest_weight, product_is_zero};
+use std::test::Fail;
+
+type K = Gf<P31>;
+
+fn product_vanishes<D: Domain>(left: &D, right: &D) -> bool {
+    product_is_zero(left, right)
+}
+
+#[test]
+fn residues_by_the_field(rt: HostRuntime) -> Result<(), Fail> {
+    // each row: a, b, a + b, a - b, -a, a b
+    for (a, b, sum, difference, negative, product) in [
+        (0, 0, 0, 0, 0, 0),
+        (1, 30, 0, 2, 30, 30),
+        (30, 30, 29, 0, 1, 1),
+        (7, 9, 16, 29, 24, 1),
+        (16, 2, 18, 14, 15, 1),
+    ] {
+        let (x, y) = (K::new(a), K::new(b));
+        assert_eq!(rt; x.plus(y).residue(), sum, "{a} + {b}");
+        assert_eq!(rt; x.minus(y).residue(), difference, "{a} - {b}");
+        assert_eq!(rt; x.negate().residue(), negative, "-{a}");
+        assert_eq!(rt; x.times(y).residue(), product, "{a} * {b}");
+    }
+    for (a, inverse) in [(1, 1), (2, 16), (3, 21), (7, 9), (30, 30)] {
+        assert_eq!(rt;
+            K::new(a).inv().ok_or("none")?.residue(),
+            inverse,
+            "1 / {a}"
+        );
+    }
+    assert!(rt; K::nil().inv().is_none());
+    assert!(rt; K::nil().is_nil());
+    assert!(rt; !K::unit().is_nil());
+    Ok(())
+}
+
+#[test]
+fn residues_by_the_ring(rt: HostRuntime) -> Result<(), Fail> {
+    let alloc = rt.alloc();
+    let (x, y) = (K::new(16), K::new(20));
+    assert_eq!(rt; x.add(alloc, &y)?.residue(), 5);
+    assert_eq!(rt; x.neg(alloc)?.residue(), 15);
+    assert_eq!(rt; x.mul(alloc, &y)?.residue(), 10);
+    assert_eq!(rt; K::zero(alloc)?.residue(), 0);
+    assert_eq!(rt; K::one(alloc)?.residue(), 1);
+    assert!(rt; x.equal(&K::new(16)));
+    assert!(rt; !x.equal(&y));
+    assert!(rt; !x.is_zero());
+    assert_eq!(rt; greatest_weight([x, y].as_slice()), 0);
+    assert!(rt; !product_vanishes(&x, &y));
+    assert!(rt; product_vanishes(&x, &K::new(0)));
+    Ok(())
+}
+
+#[test]
+fn elements_by_number(rt: HostRuntime) {
+    for (v, residue) in [
+        (0, 0),
+        (30, 30),
+        (31, 0),
+        (-1, 30),
+        (-31, 0),
+        (9_999_999_999, 4),
+        (-9_999_999_999, 27),
+        (i64::MIN, 23),
+    ] {
+        assert_eq!(rt; K::from_i64(v).residue(), residue, "at {v}");
+    }
+    assert_eq!(rt; K::nth(17).place(), 17);
+    assert_eq!(rt; K::ORDER, 31);
+}
