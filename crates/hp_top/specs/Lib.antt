@@ -1,0 +1,14 @@
+pub mod Arrangement
+pub mod Course
+pub mod Cutting
+pub mod Ends
+pub mod FormFaults
+pub mod Grammar
+pub mod Places
+pub mod PointSearch
+pub mod Reading
+pub mod Run
+pub mod Script
+pub mod Status
+pub mod Text
+pub mod Tokens
