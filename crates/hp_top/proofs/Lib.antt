@@ -1,0 +1,4 @@
+pub mod Courses
+pub mod Forms
+pub mod OneCourse
+pub mod RightCall

@@ -1,0 +1,52 @@
+-- The bytes that a run writes: the texts of right answers in order, and the line of a refusal.
+use Rattle.std.specs.Prelude.{◌≡◌, ℕ, nat_lt, if◌then◌else◌, List, [], ◌∷◌, ◌++◌, take, length, Option, Some, None}
+use Rattle.std.specs.List.{AllZip}
+use Rattle.hp_modp.specs.Residues.{residue_ring, residue_numbers}
+use Rattle.hp_render.specs.Text.{answer_text, refusal_text}
+use Rattle.hp_render.specs.declared.answer.Answer.{Answer}
+use Rattle.hp_render.specs.declared.refusal.Refusal.{Refusal}
+use Rattle.hp_top.specs.Course.{Asked, Course, HasCourse}
+use Rattle.hp_top.specs.Session.{IsRightAnswer}
+
+abbrev pub refused_line : Option (ℕ × Refusal) → List ℕ
+refused_line None = []
+refused_line (Some r) = refusal_text r.0 r.1
+
+-- the answer is right, and this is its text
+abbrev pub IsRightFor : Asked → Answer ℕ → Type 0
+IsRightFor q a = IsRightAnswer (residue_ring 31) (residue_numbers 31) q.arr q.question a
+
+abbrev pub text_of : Asked → Answer ℕ → List ℕ
+text_of q a = answer_text (residue_numbers 31) q.name a
+
+-- one right answer for each question, in order
+abbrev pub AreRight : List Asked → List (Answer ℕ) → Type 0
+AreRight qs answers = AllZip IsRightFor qs answers
+
+abbrev pub texts_of : List Asked → List (Answer ℕ) → List ℕ
+texts_of [] answers = []
+texts_of (q ∷ qs) [] = []
+texts_of (q ∷ qs) (a ∷ answers) = text_of q a ++ texts_of qs answers
+
+-- the text of a course: its right answers in order, and the line of its refusal
+abbrev pub IsTextOf : Course → List ℕ → Type 0
+IsTextOf c text = (answers : List (Answer ℕ)) × AreRight c.questions answers × (text ≡ texts_of c.questions answers ++ refused_line c.refused)
+
+-- the course up to its first k questions, and behind all of them its refusal
+abbrev pub first_questions : ℕ → Course → Course
+first_questions k c = record { questions = take k c.questions; refused = (if nat_lt k (length c.questions) then None else c.refused) }
+
+abbrev pub IsPrefix : List ℕ → List ℕ → Type 0
+IsPrefix xs ys = (rest : List ℕ) × (ys ≡ xs ++ rest)
+
+-- the bytes of a course that was cut off begin the text of its first k questions, for some k; nothing is said of answers that were not reached
+abbrev pub IsPartOf : Course → List ℕ → Type 0
+IsPartOf c bytes = (k : ℕ) × (text : List ℕ) × IsTextOf (first_questions k c) text × IsPrefix bytes text
+
+-- the bytes of a right run of a script
+abbrev pub IsRunText : List ℕ → List ℕ → Type 0
+IsRunText script bytes = (c : Course) × HasCourse script c × IsTextOf c bytes
+
+-- the bytes of a run of a script that was cut off
+abbrev pub IsPartText : List ℕ → List ℕ → Type 0
+IsPartText script bytes = (c : Course) × HasCourse script c × IsPartOf c bytes
