@@ -11,7 +11,11 @@ use itoa::Buffer;
 use std::alloc::Global;
 
 /// Appends the text of the answer about the arrangement of that name. Where memory is out, nothing is appended.
-pub fn render<K: FiniteField>(answer: &Answer<K>, name: &Name, out: &mut Vec<u8>) -> Result<(), NoMem>
+pub fn render<K: FiniteField>(
+    answer: &Answer<K>,
+    name: &Name,
+    out: &mut Vec<u8>,
+) -> Result<(), NoMem>
     ensures whole { OnOk result (out.new.items ≡ out.old.items ++ answer_text K.numbers name.now answer.now) }
     ensures nothing { OnErr result (out.new.items ≡ out.old.items) }
 {
@@ -31,7 +35,12 @@ fn text_of<K: FiniteField>(alloc: Global, answer: &Answer<K>, name: &Name) -> Re
 }
 
 /// The lines of an arrangement: how many hyperplanes in which dimension, and the coefficients of each.
-fn hyperplanes_text<K: FiniteField>(alloc: Global, name: &Name, dim: u32, forms: &[List<K>]) -> Result<Vec<u8>, NoMem>
+fn hyperplanes_text<K: FiniteField>(
+    alloc: Global,
+    name: &Name,
+    dim: u32,
+    forms: &[List<K>],
+) -> Result<Vec<u8>, NoMem>
     ensures { IfOk result (λ text. text.items ≡ hyperplanes_text K.numbers name.now dim forms.now) }
 {
     let mut buffer = Buffer::new();

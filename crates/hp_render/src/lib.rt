@@ -6,6 +6,8 @@ mod answer_text;
 mod numbers;
 mod refusal;
 mod refusal_text;
+#[cfg(test)]
+mod tests;
 
 pub use answer::{Answer, AskWord};
 pub use answer_text::render;

@@ -1,10 +1,8 @@
 -- What a run gives to the sink, as the text of a course or a part of it.
-use Rattle.std.proofs.Common.{◌≡◌, ◌⊎◌, ℕ, ◌+◌, ◌<◌, ◌≤◌, Bool, true, false, nat_lt, List, [], ◌∷◌, ◌++◌, take, drop, length, Option, Some, None, Err, Ok, refl, sym, ap, subst, ◌∙◌, append_assoc, length-append, arith, get_or, inl, inr}
+use Rattle.std.proofs.Common.{◌≡◌, ℕ, ◌+◌, ◌<◌, ◌≤◌, Bool, nat_lt, List, [], ◌∷◌, ◌++◌, take, drop, length, Option, Some, None, Err, Ok, refl, sym, ap, subst, ◌∙◌, append_assoc, length-append, arith, get_or, inl, inr}
 use Rattle.std.specs.Bool.{if◌then◌else◌}
-use Rattle.std.specs.List.{AllZip}
 use Rattle.std.proofs.lemmas.List.{append-nil, take-append-drop, drop_more}
 use Rattle.std.proofs.Math.Seq.{take-append-add}
-use Rattle.std.proofs.lemmas.Bool.{cases_lt}
 use Rattle.std.proofs.lemmas.Bool.Decides.{nat_tests}
 use Rattle.std.proofs.Math.ListN.{drop_of_length-le}
 use Rattle.hp_io.specs.Bytes.{Gave, GavePart}
@@ -65,8 +63,8 @@ module _ (qs : List Asked) (xs : List (Answer ℕ)) (right : AreRight qs xs) whe
     xs ++ is.0,
     right-append qs c.questions xs is.0 right is.1,
     ap (λ s. texts_of qs xs ++ s) is.2
-    ∙ sym (append_assoc (texts_of qs xs) (texts_of c.questions is.0) (refused_line c.refused))
-    ∙ ap (λ s. s ++ refused_line c.refused) (sym (texts_of-append qs c.questions xs is.0 right)),
+        ∙ sym (append_assoc (texts_of qs xs) (texts_of c.questions is.0) (refused_line c.refused))
+        ∙ ap (λ s. s ++ refused_line c.refused) (sym (texts_of-append qs c.questions xs is.0 right)),
   )
 
   shifted : (n k m : ℕ) → nat_lt (n + k) (n + m) ≡ nat_lt k m
@@ -261,8 +259,10 @@ module _ (lines : List Line) (i : ℕ) (line : Line) (state : State ℕ) (before
     where
       a' : Answer ℕ
       a' = answered.0
+
       asked' : Asks state line.command a'
       asked' = asks_question state line.command a' answered.2
+
       by_status : (s : Status) → WritesText (text_of asked'.question a') (Err s) middle now → EndsBy s (course lines) before now
       by_status WriteFault front = ends_answering a' answered.1 asked' now WriteFault front (λ c part. part)
       by_status OutOfMemory front = ends_answering a' answered.1 asked' now OutOfMemory front (λ c part. part)

@@ -1,10 +1,9 @@
 -- Rows of integers as forms of one width.
-use Rattle.std.proofs.Common.{◌≡◌, ℕ, Bool, true, false, not, ◌&&◌, ◌||◌, ◌==◌, List, [], ◌∷◌, map, length, All, refl, ap, sym, ◌∙◌}
+use Rattle.std.proofs.Common.{◌≡◌, ℕ, Bool, true, false, not, ◌||◌, ◌==◌, List, [], ◌∷◌, map, length, All, refl, ap, sym, ◌∙◌}
 use Rattle.std.specs.List.{list_any}
 use Rattle.std.proofs.lemmas.List.{length-map}
 use Rattle.std.proofs.lemmas.List.Elements.{All-nil, All-cons, All-head, All-tail}
-use Rattle.std.proofs.lemmas.Bool.{false≢true, eqb-true, cases_Bool}
-use Rattle.hp_top.specs.Session.{is_dimension, has_wrong_length, is_bad_dimension}
+use Rattle.std.proofs.lemmas.Bool.{false≢true, eqb-true}
 
 -- where no row has another length, each has that length
 pub right_lengths : {Z : Type 0} (l : ℕ) (rows : List (List Z)) → list_any (λ row. not (length row == l)) rows ≡ false → All (λ row. length row ≡ l) rows
@@ -13,6 +12,7 @@ right_lengths l (row ∷ rows) e = at (length row == l) refl e (λ none. right_l
   where
     wrong : Bool
     wrong = list_any (λ row. not (length row == l)) rows
+
     at : (b : Bool) → (length row == l) ≡ b → (not b || wrong) ≡ false → (wrong ≡ false → All (λ row. length row ≡ l) rows) → All (λ row. length row ≡ l) (row ∷ rows)
     at true same none rest = All-cons (λ row. length row ≡ l) row rows (eqb-true (length row) l same) (rest none)
     at false other none rest = absurd (false≢true (sym none))

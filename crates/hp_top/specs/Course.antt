@@ -6,10 +6,10 @@ use Rattle.hp_render.specs.declared.refusal.Refusal.{Refusal}
 use Rattle.hp_render.specs.declared.refusal.Refusal.TheVariants.{Syntax}
 use Rattle.hp_script.specs.Script.{HasCommands, HasSyntaxFault}
 use Rattle.hp_script.specs.declared.command.Command.{Command}
-use Rattle.hp_script.specs.declared.command.Command.TheVariants.{Field, Let, Ask, LimitPairs, LimitDegree}
+use Rattle.hp_script.specs.declared.command.Command.TheVariants.{Ask}
 use Rattle.hp_script.specs.declared.command.Line.{Line}
 use Rattle.hp_script.specs.declared.command.Question.{Question}
-use Rattle.hp_top.specs.Session.{State, no_field, no_name, named, refusal, after}
+use Rattle.hp_top.specs.Session.{State, no_field, named, refusal, after}
 
 -- A question that is asked of an arrangement, which the script calls by a name.
 pub record Asked : Type 0 where

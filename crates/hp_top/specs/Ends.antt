@@ -7,7 +7,6 @@ use Rattle.hp_render.specs.declared.answer.Answer.{Answer}
 use Rattle.hp_script.specs.declared.command.Command.{Command}
 use Rattle.hp_script.specs.declared.command.Command.TheVariants.{Ask}
 use Rattle.hp_io.specs.Bytes.{Gave}
-use Rattle.hp_io.specs.Causes.{HasCause}
 use Rattle.hp_top.specs.Course.{Course, HasCourse, refused_at}
 use Rattle.hp_top.specs.Session.{State, refusal, after}
 use Rattle.hp_top.specs.Steps.{IsSilent, Answers}

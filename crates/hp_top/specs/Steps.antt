@@ -3,7 +3,7 @@ use Rattle.std.specs.Prelude.{◌≡◌, Some, None}
 use Rattle.hp_algebra.specs.Ring.{RingOf, Numbering}
 use Rattle.hp_render.specs.declared.answer.Answer.{Answer}
 use Rattle.hp_script.specs.declared.command.Command.{Command}
-use Rattle.hp_script.specs.declared.command.Command.TheVariants.{Field, Let, Ask}
+use Rattle.hp_script.specs.declared.command.Command.TheVariants.{Ask}
 use Rattle.hp_top.specs.Session.{State, no_field, no_name, named, refusal, after, IsRightAnswer}
 use Rattle.hp_top.specs.declared.session.Session.{Session}
 use Rattle.hp_top.specs.declared.session.Session.TheVariants.{NoField, NoName, Named}

@@ -15,7 +15,12 @@ use hp_script::{Command, Name, Question};
 use std::alloc::Global;
 
 /// The answer of a command, where this arrangement has this name.
-pub fn answered<K: FiniteField>(alloc: Global, name: &Name, arr: &Arr<K>, command: &Command) -> Result<Answer<K>, Stop>
+pub fn answered<K: FiniteField>(
+    alloc: Global,
+    name: &Name,
+    arr: &Arr<K>,
+    command: &Command,
+) -> Result<Answer<K>, Stop>
     ensures accepted { OnOk result (refusal K.ring K.numbers (named name.now arr.now) command.now ≡ None) }
     ensures right { IfOk result (Answers K.ring K.numbers (named name.now arr.now) command.now) }
     ensures stop { IfErr result (StopsBy (refusal K.ring K.numbers (named name.now arr.now) command.now)) }
@@ -33,7 +38,11 @@ pub fn answered<K: FiniteField>(alloc: Global, name: &Name, arr: &Arr<K>, comman
 }
 
 /// The answer of a question about the arrangement.
-fn answer<K: FiniteField>(alloc: Global, arr: &Arr<K>, question: &Question) -> Result<Answer<K>, Stop>
+fn answer<K: FiniteField>(
+    alloc: Global,
+    arr: &Arr<K>,
+    question: &Question,
+) -> Result<Answer<K>, Stop>
     ensures built { OnOk result (is_built question.now ≡ true) }
     ensures right { IfOk result (IsRightAnswer K.ring K.numbers arr.now question.now) }
     ensures stop { IfErr result (StopsBy (where_true (not (is_built question.now)) NotBuilt)) }

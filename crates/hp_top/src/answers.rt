@@ -23,7 +23,12 @@ pub fn answer_script<T: Sink>(alloc: Global, script: &[u8], out: &mut T) -> Stat
 {
     match parse(alloc, script) {
         Ok(lines) => answer_lines(alloc, &lines, out),
-        Err(ScriptFault::Syntax { line, column }) => refuse(alloc, line, &Refusal::Syntax(column), out),
+        Err(ScriptFault::Syntax { line, column }) => refuse(
+            alloc,
+            line,
+            &Refusal::Syntax(column),
+            out,
+        ),
         Err(ScriptFault::Memory) => Status::OutOfMemory,
     }
 }
@@ -44,7 +49,12 @@ fn answer_lines<T: Sink>(alloc: Global, lines: &[Line], out: &mut T) -> Status
 }
 
 /// Takes one command, and writes its answer, or answers the status that ends the run.
-fn answer_line<T: Sink>(alloc: Global, session: &mut Session<Gf<P31>>, line: &Line, out: &mut T) -> Result<(), Status>
+fn answer_line<T: Sink>(
+    alloc: Global,
+    session: &mut Session<Gf<P31>>,
+    line: &Line,
+    out: &mut T,
+) -> Result<(), Status>
     requires { CommandIsShort line.now.command }
     ensures goes_on { OnOk result (GoesOn (state_of session.old) line.now (state_of session.new) (T.written out.old) (T.written out.new)) }
     ensures ends { IfErr result (λ status. EndsAt (state_of session.old) line.now status (T.written out.old) (T.written out.new)) }
@@ -59,7 +69,12 @@ fn answer_line<T: Sink>(alloc: Global, session: &mut Session<Gf<P31>>, line: &Li
 }
 
 /// Writes the answer of a question.
-fn write_answer<T: Sink>(alloc: Global, command: &Command, answer: &Answer<Gf<P31>>, out: &mut T) -> Result<(), Status>
+fn write_answer<T: Sink>(
+    alloc: Global,
+    command: &Command,
+    answer: &Answer<Gf<P31>>,
+    out: &mut T,
+) -> Result<(), Status>
     requires { IsQuestion command.now }
     ensures writes { WritesAnswer command.now answer.now result (T.written out.old) (T.written out.new) }
     ensures counted { HasCause (T.faults out.old) (T.faults out.new) (result ≡ Err Status.WriteFault) }

@@ -32,7 +32,11 @@ pub fn named<K: FiniteField>(alloc: Global, command: &Command) -> Result<Session
 }
 
 /// The session in which what is built has this name.
-fn named_build<K: FiniteField>(alloc: Global, name: &Name, build: &Build) -> Result<Session<K>, Stop>
+fn named_build<K: FiniteField>(
+    alloc: Global,
+    name: &Name,
+    build: &Build,
+) -> Result<Session<K>, Stop>
     requires { BuildIsShort build.now }
     ensures accepted { OnOk result (build_refusal K.ring K.numbers build.now ≡ None) }
     ensures next { IfOk result (Names name.now (built K.ring build.now)) }
@@ -45,7 +49,12 @@ fn named_build<K: FiniteField>(alloc: Global, name: &Name, build: &Build) -> Res
 }
 
 /// The session in which the arrangement of these forms has this name.
-fn named_forms<K: FiniteField>(alloc: Global, name: &Name, l: u64, rows: &[Row]) -> Result<Session<K>, Stop>
+fn named_forms<K: FiniteField>(
+    alloc: Global,
+    name: &Name,
+    l: u64,
+    rows: &[Row],
+) -> Result<Session<K>, Stop>
     requires { length rows.now < 2 ^ 32 - 1 }
     ensures accepted { OnOk result (forms_refusal K.ring K.numbers l rows.now ≡ None) }
     ensures next { IfOk result (Names name.now (record { dim = l; forms = rows_of K.ring rows.now })) }

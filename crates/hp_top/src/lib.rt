@@ -14,10 +14,9 @@ mod stop;
 #[cfg(test)]
 mod tests;
 
-pub use status::Status;
-
 use answers::answer_script;
 use hp_io::{ReadEnd, Sink, Source, read_all};
+pub use status::Status;
 use std::alloc::Global;
 
 /// How many bytes a script may have.

@@ -4,8 +4,8 @@ ghost use Rattle.std.specs.Prelude.{◌≡◌, IfOk, IfErr};
 ghost use Rattle.hp_script.specs.Lists.{CommandIsShort};
 ghost use Rattle.hp_top.specs.Steps.{Steps};
 
-use crate::building::named;
 use crate::answering::answered;
+use crate::building::named;
 use crate::stop::Stop;
 use hp_algebra::FiniteField;
 use hp_arr::Arr;

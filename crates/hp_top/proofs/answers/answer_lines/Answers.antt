@@ -1,4 +1,3 @@
-use Rattle.std.proofs.Common.{◌≡◌, ◌+◌}
 use Rattle.hp_io.proofs.Faults.{cause_none, cause_more}
 use Rattle.hp_top.specs.Steps.{state_of}
 use Rattle.hp_top.proofs.Courses.{going_first, going_on, ending, ends_done}

@@ -1,4 +1,3 @@
-use Rattle.std.proofs.Common.{◌≡◌}
 use Rattle.hp_algebra.specs.Ring.{integer}
 use Rattle.hp_top.specs.Session.{is_dimension, has_wrong_length}
 use Rattle.hp_top.proofs.Forms.{right_lengths, widths_of, no_wrong_length}
