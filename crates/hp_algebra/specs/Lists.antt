@@ -1,5 +1,5 @@
 -- Words on lists and numbers.
-use Rattle.std.specs.Prelude.{ℕ, Bool, if◌then◌else◌, List, [], ◌∷◌, Option, Some, None}
+use Rattle.std.specs.Prelude.{ℕ, zero, suc, Bool, if◌then◌else◌, List, [], ◌∷◌, ◌++◌, map, flat_map, Option, Some, None}
 pub use Rattle.std.specs.List.{range_with_len, list_any, list_all}
 
 -- the numbers 1 to n
@@ -24,3 +24,14 @@ abbrev pub first_some : {X : Type 0} → List (Option X) → Option X
 first_some [] = None
 first_some (None ∷ xs) = first_some xs
 first_some (Some x ∷ xs) = Some x
+
+-- all sublists of length n, in lexicographic order of their places
+abbrev pub sublists_of_length : {X : Type 0} → ℕ → List X → List (List X)
+sublists_of_length zero xs = [] ∷ []
+sublists_of_length (suc n) [] = []
+sublists_of_length (suc n) (x ∷ xs) = map (λ s. x ∷ s) (sublists_of_length n xs) ++ sublists_of_length (suc n) xs
+
+-- all lists of length n whose members are taken from xs, in lexicographic order
+abbrev pub words_over : {X : Type 0} → List X → ℕ → List (List X)
+words_over xs zero = [] ∷ []
+words_over xs (suc n) = flat_map (λ x. map (λ w. x ∷ w) (words_over xs n)) xs

@@ -8,6 +8,7 @@ mod field;
 mod list;
 mod memory;
 mod ring;
+mod sums;
 #[cfg(test)]
 mod tests;
 mod values;
@@ -16,4 +17,5 @@ pub use field::{Field, FiniteField};
 pub use list::List;
 pub use memory::NoMem;
 pub use ring::{CommRing, Domain, Ring};
+pub use sums::dot;
 pub use values::{greatest_weight, product_is_zero};

@@ -1,7 +1,7 @@
 //! The calls of `Gf` at 31, compared with residues worked by hand, and the generic calls of the algebra at this field.
 
 use crate::{Gf, P31};
-use hp_algebra::{Domain, Field, FiniteField, Ring, greatest_weight, product_is_zero};
+use hp_algebra::{Domain, Field, FiniteField, Ring, dot, greatest_weight, product_is_zero};
 use std::test::Fail;
 
 type K = Gf<P31>;
@@ -52,6 +52,8 @@ fn residues_by_the_ring(rt: HostRuntime) -> Result<(), Fail> {
     assert!(rt; !x.equal(&y));
     assert!(rt; !x.is_zero());
     assert_eq!(rt; greatest_weight([x, y].as_slice()), 0);
+    let (left, right) = ([K::new(1), K::new(2)], [K::new(3), K::new(4)]);
+    assert_eq!(rt; dot(alloc, left.as_slice(), right.as_slice())?.residue(), 11);
     assert!(rt; !product_vanishes(&x, &y));
     assert!(rt; product_vanishes(&x, &K::new(0)));
     Ok(())

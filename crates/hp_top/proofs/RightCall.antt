@@ -1,14 +1,14 @@
 -- From what the parts of a run do, the whole clause of the run.
-use Rattle.std.proofs.Common.{◌≡◌, ◌≢◌, ◌⊎◌, ◌↔◌, ℕ, ◌+◌, ◌<◌, ◌≤◌, List, [], ◌∷◌, ◌++◌, length, Option, Some, None, refl, sym, ap, subst, ◌∙◌, inl, inr, arith, length-append}
+use Rattle.std.proofs.Common.{◌≡◌, ◌≢◌, ◌⊎◌, ℕ, ◌<◌, ◌≤◌, List, [], ◌++◌, length, Option, Some, refl, sym, ap, subst, ◌∙◌, inl, inr, arith, length-append}
 use Rattle.std.proofs.lemmas.List.{append-nil}
-use Rattle.hp_io.specs.Bytes.{Gave, Took, TookAll, TookSome, TookOverExactly}
+use Rattle.hp_io.specs.Bytes.{Gave, TookAll}
 use Rattle.hp_io.specs.Causes.{Rose, HasCause}
 use Rattle.hp_io.proofs.Givings.{gave_told}
-use Rattle.hp_io.proofs.Takings.{took_all_told, took_told, over_told}
+use Rattle.hp_io.proofs.Takings.{took_all_told}
 use Rattle.hp_top.specs.Course.{Course, HasCourse, IsShort, IsAccepted, IsRefused}
-use Rattle.hp_top.specs.Text.{IsRunText, IsPartText, IsTextOf, IsPartOf}
-use Rattle.hp_top.specs.Ends.{EndsBy, EndsScript, GaveText, GavePartOf}
-use Rattle.hp_top.specs.Run.{Call, NoFaults, Wrote, WroteNothing, Reads, RefusesWords, WritesByStatus, HasCauses, CountsFaults, WritesRightRun, WritesRefusal, IsRightCall}
+use Rattle.hp_top.specs.Text.{IsRunText, IsPartText, IsPartOf}
+use Rattle.hp_top.specs.Ends.{EndsBy, EndsScript}
+use Rattle.hp_top.specs.Run.{Call, NoFaults, Wrote, Reads, RefusesWords, WritesByStatus, CountsFaults, IsRightCall}
 use Rattle.hp_top.specs.declared.status.Status.{Status}
 use Rattle.hp_top.specs.declared.status.Status.TheVariants.{Done, ScriptRefused, ReadFault, WriteFault, TooLong, WordsRefused, OutOfMemory}
 use Rattle.hp_top.proofs.OneCourse.{not_both}

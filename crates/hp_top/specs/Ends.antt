@@ -1,10 +1,18 @@
 -- How a part of a run ends: what it gives to the sink by its status.
-use Rattle.std.specs.Prelude.{◌≡◌, ◌⊎◌, ℕ, zero, suc, ◌≤◌, List, [], ◌++◌, Option, Some, None}
+use Rattle.std.specs.Prelude.{◌≡◌, ◌⊎◌, ℕ, List, [], Option, Some, None, Ok, Err}
+use Rattle.std.specs.declared.result.Result.{Result}
+use Rattle.hp_modp.specs.Residues.{residue_ring, residue_numbers}
+use Rattle.hp_render.specs.Text.{answer_text}
+use Rattle.hp_render.specs.declared.answer.Answer.{Answer}
+use Rattle.hp_script.specs.declared.command.Command.{Command}
+use Rattle.hp_script.specs.declared.command.Command.TheVariants.{Ask}
 use Rattle.hp_io.specs.Bytes.{Gave}
-use Rattle.hp_io.specs.Causes.{HasCause}
-use Rattle.hp_top.specs.Course.{Course, HasCourse}
-use Rattle.hp_top.specs.Text.{IsTextOf, IsPartOf}
-use Rattle.hp_top.specs.declared.refusal.Refusal.{Refusal}
+use Rattle.hp_top.specs.Course.{Course, HasCourse, refused_at}
+use Rattle.hp_top.specs.Session.{State, refusal, after}
+use Rattle.hp_top.specs.Steps.{IsSilent, Answers}
+use Rattle.hp_script.specs.declared.command.Line.{Line}
+use Rattle.hp_top.specs.Text.{IsTextOf, IsPartOf, IsPrefix}
+use Rattle.hp_render.specs.declared.refusal.Refusal.{Refusal}
 use Rattle.hp_top.specs.declared.status.Status.{Status}
 use Rattle.hp_top.specs.declared.status.Status.TheVariants.{Done, ScriptRefused, ReadFault, WriteFault, TooLong, WordsRefused, OutOfMemory}
 
@@ -28,21 +36,31 @@ EndsBy WordsRefused c before now = ⊥
 abbrev pub EndsScript : List ℕ → Status → Option (List ℕ) → Option (List ℕ) → Type 0
 EndsScript script status before now = ((c : Course) × HasCourse script c × EndsBy status c before now) ⊎ ((status ≡ OutOfMemory) × Gave before now [])
 
--- the text so many times
-abbrev pub times : ℕ → List ℕ → List ℕ
-times zero text = []
-times (suc n) text = text ++ times n text
+-- the front of the text was given
+abbrev pub GaveFront : List ℕ → Option (List ℕ) → Option (List ℕ) → Type 0
+GaveFront text before now = (front : List ℕ) × IsPrefix front text × Gave before now front
 
--- the sink was given the front of the text k times, for some k up to n
-abbrev pub GaveTimes : ℕ → List ℕ → Option (List ℕ) → Option (List ℕ) → Type 0
-GaveTimes n text before now = (k : ℕ) × (bytes : List ℕ) × (rest : List ℕ) × (k ≤ n) × (times k text ≡ bytes ++ rest) × Gave before now bytes
+-- the sink was given the text, or the front of it where that ended the run
+abbrev pub WritesText : List ℕ → Result (Unit {0}) Status → Option (List ℕ) → Option (List ℕ) → Type 0
+WritesText text (Ok done) before now = Gave before now text
+WritesText text (Err WriteFault) before now = GaveFront text before now
+WritesText text (Err OutOfMemory) before now = GaveFront text before now
+WritesText text (Err other) before now = ⊥
 
--- the sink was given the text so many times, or where a write ended early the front of that
-abbrev pub EndsTimes : Status → ℕ → List ℕ → Option (List ℕ) → Option (List ℕ) → Type 0
-EndsTimes Done n text before now = Gave before now (times n text)
-EndsTimes WriteFault n text before now = GaveTimes n text before now
-EndsTimes OutOfMemory n text before now = GaveTimes n text before now
-EndsTimes ScriptRefused n text before now = ⊥
-EndsTimes ReadFault n text before now = ⊥
-EndsTimes TooLong n text before now = ⊥
-EndsTimes WordsRefused n text before now = ⊥
+-- the same of the text of an answer to a question
+abbrev pub WritesAnswer : Command → Answer ℕ → Result (Unit {0}) Status → Option (List ℕ) → Option (List ℕ) → Type 0
+WritesAnswer (Ask name q) a result before now = WritesText (answer_text (residue_numbers 31) name a) result before now
+WritesAnswer other a result before now = ⊥
+
+-- A line goes on: a silent command changes the state and gives nothing, or an answered question keeps the state and its text is given.
+abbrev pub GoesOn : State ℕ → Line → State ℕ → Option (List ℕ) → Option (List ℕ) → Type 0
+GoesOn state l next before now =
+    ((refusal (residue_ring 31) (residue_numbers 31) state l.command ≡ None) × IsSilent l.command × (next ≡ after (residue_ring 31) state l.command) × Gave before now [])
+    ⊎ ((a : Answer ℕ) × (refusal (residue_ring 31) (residue_numbers 31) state l.command ≡ None) × Answers (residue_ring 31) (residue_numbers 31) state l.command a × (next ≡ state) × WritesAnswer l.command a (Ok tt) before now)
+
+-- A line ends the run: it is refused, memory is out, or the text of its answer was cut off.
+abbrev pub EndsAt : State ℕ → Line → Status → Option (List ℕ) → Option (List ℕ) → Type 0
+EndsAt state l status before now =
+    ((r : Refusal) × (refusal (residue_ring 31) (residue_numbers 31) state l.command ≡ Some r) × EndsBy status (refused_at l.number r) before now)
+    ⊎ (((status ≡ OutOfMemory) × Gave before now [])
+    ⊎ ((a : Answer ℕ) × (refusal (residue_ring 31) (residue_numbers 31) state l.command ≡ None) × Answers (residue_ring 31) (residue_numbers 31) state l.command a × WritesAnswer l.command a (Err status) before now))

@@ -1,14 +1,8 @@
-pub mod Arrangement
 pub mod Course
-pub mod Cutting
 pub mod Ends
-pub mod FormFaults
-pub mod Grammar
-pub mod Places
-pub mod PointSearch
-pub mod Reading
 pub mod Run
-pub mod Script
+pub mod Session
 pub mod Status
+pub mod Steps
+pub mod Stops
 pub mod Text
-pub mod Tokens

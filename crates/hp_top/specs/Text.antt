@@ -1,52 +1,36 @@
 -- The bytes that a run writes: the texts of right answers in order, and the line of a refusal.
-use Rattle.std.specs.Prelude.{◌≡◌, ◌<◌, ℕ, nat_lt, if◌then◌else◌, List, [], ◌∷◌, ◌++◌, flat_map, take, length, codes, decimal, Option, Some, None}
+use Rattle.std.specs.Prelude.{◌≡◌, ℕ, nat_lt, if◌then◌else◌, List, [], ◌∷◌, ◌++◌, take, length, Option, Some, None}
 use Rattle.std.specs.List.{AllZip}
-use Rattle.hp_algebra.specs.Ring.{Numbering}
 use Rattle.hp_modp.specs.Residues.{residue_ring, residue_numbers}
-use Rattle.hp_top.specs.Arrangement.{IsLeastPointOff}
+use Rattle.hp_render.specs.Text.{answer_text, refusal_text}
+use Rattle.hp_render.specs.declared.answer.Answer.{Answer}
+use Rattle.hp_render.specs.declared.refusal.Refusal.{Refusal}
 use Rattle.hp_top.specs.Course.{Asked, Course, HasCourse}
-use Rattle.hp_top.specs.declared.refusal.Refusal.{Refusal}
-use Rattle.hp_top.specs.declared.refusal.Refusal.TheVariants.{NotBuilt, ZeroForm, Repeated, TooMany}
-
-module _ {K : Type 0} (numbers : Numbering K) where
-  -- each element as its residue in decimal, after a space
-  abbrev pub elements_text : List K → List ℕ
-  elements_text cs = flat_map (λ c. 32 ∷ decimal (numbers.place c)) cs
-
-  -- the line of a point, by the name of its arrangement
-  abbrev pub point_text : List ℕ → List K → List ℕ
-  point_text name x = codes "point " ++ name ++ codes ":" ++ elements_text x ++ 10 ∷ []
-
-abbrev pub refusal_words : Refusal → List ℕ
-refusal_words NotBuilt = codes "not built"
-refusal_words (ZeroForm i) = codes "zero form " ++ decimal i
-refusal_words (Repeated i j) = codes "repeated " ++ decimal i ++ codes " " ++ decimal j
-refusal_words (TooMany n) = codes "too many " ++ decimal n
-
--- the line of a refusal
-abbrev pub refusal_text : ℕ → Refusal → List ℕ
-refusal_text line r = codes "refused line " ++ decimal line ++ codes ": " ++ refusal_words r ++ 10 ∷ []
+use Rattle.hp_top.specs.Session.{IsRightAnswer}
 
 abbrev pub refused_line : Option (ℕ × Refusal) → List ℕ
 refused_line None = []
 refused_line (Some r) = refusal_text r.0 r.1
 
--- the point is the right answer: the least one off the arrangement
-abbrev pub IsRightFor : Asked → List ℕ → Type 0
-IsRightFor q x = IsLeastPointOff (residue_ring 31) (residue_numbers 31) q.arr x
+-- the answer is right, and this is its text
+abbrev pub IsRightFor : Asked → Answer ℕ → Type 0
+IsRightFor q a = IsRightAnswer (residue_ring 31) (residue_numbers 31) q.arr q.question a
+
+abbrev pub text_of : Asked → Answer ℕ → List ℕ
+text_of q a = answer_text (residue_numbers 31) q.name a
 
 -- one right answer for each question, in order
-abbrev pub AreRight : List Asked → List (List ℕ) → Type 0
-AreRight qs points = AllZip IsRightFor qs points
+abbrev pub AreRight : List Asked → List (Answer ℕ) → Type 0
+AreRight qs answers = AllZip IsRightFor qs answers
 
-abbrev pub texts_of : List Asked → List (List ℕ) → List ℕ
-texts_of [] points = []
+abbrev pub texts_of : List Asked → List (Answer ℕ) → List ℕ
+texts_of [] answers = []
 texts_of (q ∷ qs) [] = []
-texts_of (q ∷ qs) (x ∷ points) = point_text (residue_numbers 31) q.name x ++ texts_of qs points
+texts_of (q ∷ qs) (a ∷ answers) = text_of q a ++ texts_of qs answers
 
 -- the text of a course: its right answers in order, and the line of its refusal
 abbrev pub IsTextOf : Course → List ℕ → Type 0
-IsTextOf c text = (points : List (List ℕ)) × AreRight c.questions points × (text ≡ texts_of c.questions points ++ refused_line c.refused)
+IsTextOf c text = (answers : List (Answer ℕ)) × AreRight c.questions answers × (text ≡ texts_of c.questions answers ++ refused_line c.refused)
 
 -- the course up to its first k questions, and behind all of them its refusal
 abbrev pub first_questions : ℕ → Course → Course

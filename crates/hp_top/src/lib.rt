@@ -5,19 +5,17 @@ ghost use Rattle.std.specs.Prelude.{◌≡◌, map, string_bytes};
 ghost use Rattle.hp_top.specs.Run.{IsRightCall};
 ghost use Rattle.hp_top.specs.declared.status.Status.TheVariants.{WordsRefused};
 
+mod answering;
 mod answers;
-mod arr;
-mod refusal;
-mod script;
+mod building;
+mod session;
 mod status;
+mod stop;
 #[cfg(test)]
 mod tests;
-mod text;
 
 use answers::answer_script;
-pub use arr::{Arr, ArrFault, MAX_DIM, MAX_FORMS};
 use hp_io::{ReadEnd, Sink, Source, read_all};
-pub use script::{Build, Command, Line, Name, Question, Row, ScriptFault, read_script};
 pub use status::Status;
 use std::alloc::Global;
 

@@ -77,6 +77,21 @@ fn answers_and_refusals(rt: HostRuntime) -> Result<(), Fail> {
         (b" \t\r\n# field\n", Status::Done, b""),
         (b"field 031", Status::Done, b""),
         (
+            b"field 31\nlet A = forms 2 [1 0, 0 1, 1-1]\nhyperplanes A\npoint A",
+            Status::Done,
+            b"hyperplanes A: 3 in 2\n1 0\n0 1\n1 30\npoint A: 1 2\n",
+        ),
+        (
+            b"field 31\nlet E = forms 3 []\npoint E\nhyperplanes E",
+            Status::Done,
+            b"point E: 0 0 0\nhyperplanes E: 0 in 3\n",
+        ),
+        (
+            b"field 31\nlet L = forms 1 [- 5]\npoint L",
+            Status::Done,
+            b"point L: 1\n",
+        ),
+        (
             b"field 31\nlet A = forms 2 [1 2, 2 4]\n",
             Status::ScriptRefused,
             b"refused line 2: repeated 1 2\n",
@@ -92,6 +107,21 @@ fn answers_and_refusals(rt: HostRuntime) -> Result<(), Fail> {
             b"refused line 3: zero form 1\n",
         ),
         (
+            b"field 31\nlet A = forms 2 [1 0, 1]",
+            Status::ScriptRefused,
+            b"refused line 2: dimension\n",
+        ),
+        (
+            b"field 31\nlet A = forms 0 []",
+            Status::ScriptRefused,
+            b"refused line 2: dimension\n",
+        ),
+        (
+            b"field 31\nlet A = forms 9 []",
+            Status::ScriptRefused,
+            b"refused line 2: dimension\n",
+        ),
+        (
             b"field 31\nrank A",
             Status::ScriptRefused,
             b"refused line 2: not built\n",
@@ -102,24 +132,78 @@ fn answers_and_refusals(rt: HostRuntime) -> Result<(), Fail> {
             b"refused line 1: not built\n",
         ),
         (
+            b"limit pairs 5",
+            Status::ScriptRefused,
+            b"refused line 1: not built\n",
+        ),
+        (
+            b"field 31\nlet A = typeA 2",
+            Status::ScriptRefused,
+            b"refused line 2: not built\n",
+        ),
+        (
             b"field 31\nlet A = forms 1 []\npoint A\npoint B\n",
             Status::ScriptRefused,
-            b"refused line 4: not built\n",
+            b"point A: 0\nrefused line 4: not built\n",
         ),
         (
-            b"field 31\nlet E = forms 3 []\npoint E\npoint E",
-            Status::Done,
-            b"point E: 0 0 0\npoint E: 0 0 0\n",
+            b"field 31\nlet A = forms 1 [1]\npoincare A",
+            Status::ScriptRefused,
+            b"refused line 3: not built\n",
         ),
         (
-            b"field 31\nlet L = forms 1 [- 5]\npoint L",
-            Status::Done,
-            b"point L: 1\n",
+            b"field 31\nlet A = forms 1 [1]\nfield 31",
+            Status::ScriptRefused,
+            b"refused line 3: not built\n",
+        ),
+        (
+            b"field 31\nlet A = forms 2 [1 0, 0",
+            Status::ScriptRefused,
+            b"refused line 2: syntax 24\n",
+        ),
+        (
+            b"field 31\nlet A = forms 1 [0]\npoint A\nfeld 31",
+            Status::ScriptRefused,
+            b"refused line 4: syntax 1\n",
+        ),
+        (
+            b"rank A\npoint",
+            Status::ScriptRefused,
+            b"refused line 2: syntax 6\n",
         ),
     ] {
         let (ended, sink) = outcome(rt.alloc(), script)?;
         assert_eq!(rt; ended, status, "{script:?}");
         assert_eq!(rt; sink.written(), written, "{script:?}");
+    }
+    Ok(())
+}
+
+/// The lines of the plane over 31 elements but one, and one more.
+const LINES: &[u8] =
+    b"field 31\nlet A = forms 2 [1 0, 1 1, 1 2, 1 3, 1 4, 1 5, 1 6, 1 7, 1 8, 1 9, 1 10, 1 11, 1 12, 1 13, 1 14, 1 15, 1 16, 1 17, 1 18, 1 19, 1 20, 1 21, 1 22, 1 23, 1 24, 1 25, 1 26, 1 27, 1 28, 1 29";
+
+/// Thirty forms leave a point over 31 elements, and 31 are too many.
+#[test]
+fn too_many_forms(rt: HostRuntime) -> Result<(), Fail> {
+    let alloc = rt.alloc();
+    for (end, status, written) in [
+        (
+            b"]\npoint A".as_slice(),
+            Status::Done,
+            b"point A: 1 0\n".as_slice(),
+        ),
+        (
+            b", 1 30]\npoint A",
+            Status::ScriptRefused,
+            b"refused line 2: too many 31\n",
+        ),
+    ] {
+        let mut script = Vec::from_slice(alloc, LINES)?;
+        script.extend_from_slice(end)?;
+        let (ended, sink) = outcome(alloc, &script)?;
+        assert_eq!(rt; ended, status);
+        assert_eq!(rt; sink.written(), written);
     }
     Ok(())
 }

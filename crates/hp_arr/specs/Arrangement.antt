@@ -1,0 +1,77 @@
+-- Hyperplane arrangements over a finite field, and the points off their hyperplanes.
+use Rattle.std.specs.Prelude.{◌≡◌, ◌≢◌, ◌⊎◌, ℕ, ◌-◌, ◌<◌, ◌≤◌, Bool, IsFalse, List, [], ◌∷◌, map, length, All, slice_index_or, slice_get, Some}
+use Rattle.hp_algebra.specs.Ring.{RingOf, Numbering, dot_of}
+use Rattle.hp_algebra.specs.Lists.{one_to, list_all}
+use Rattle.hp_arr.specs.declared.fault.TheConstants.{MAX_DIM, MAX_FORMS}
+
+-- the greatest dimension, and the greatest number of forms
+abbrev pub max_dim : ℕ
+max_dim = MAX_DIM
+
+abbrev pub max_forms : ℕ
+max_forms = MAX_FORMS
+
+-- A dimension, and a list of linear forms, each the list of its coefficients.
+pub record Arrangement (K : Type 0) : Type 0 where
+  pub dim : ℕ
+  pub forms : List (List K)
+
+-- form i, counted from 1
+abbrev pub form : {K : Type 0} → Arrangement K → ℕ → List K
+form arr i = slice_index_or arr.forms (i - 1) []
+
+-- the numbers of the hyperplanes
+abbrev pub indices : {K : Type 0} → Arrangement K → List ℕ
+indices arr = one_to (length arr.forms)
+
+module _ {K : Type 0} (ring : RingOf K) where
+  open ring use {mul, is_zero, IsValue}
+
+  -- A list of coefficients, or a point: so many values.
+  abbrev pub IsRow : ℕ → List K → Type 0
+  IsRow width row = (length row ≡ width) × All IsValue row
+
+  abbrev pub is_zero_row : List K → Bool
+  is_zero_row row = list_all is_zero row
+
+  -- each entry times c
+  abbrev pub scale : K → List K → List K
+  scale c row = map (mul c) row
+
+  -- `a` is `c` times `b` for some value `c`
+  abbrev pub IsMultiple : List K → List K → Type 0
+  IsMultiple a b = (c : K) × IsValue c × (a ≡ scale c b)
+
+  -- the value of form i at a point, and whether the point lies in the hyperplane H_i
+  abbrev pub value : Arrangement K → ℕ → List K → K
+  value arr i x = dot_of ring (form arr i) x
+
+  abbrev pub lies_in : Arrangement K → ℕ → List K → Bool
+  lies_in arr i x = is_zero (value arr i x)
+
+  -- the point lies in no hyperplane
+  abbrev pub LiesOff : Arrangement K → List K → Type 0
+  LiesOff arr x = All (λ i. IsFalse (lies_in arr i x)) (indices arr)
+
+-- x comes before y in the lexicographic order of lists, where elements go by their places
+abbrev pub ComesBefore : {K : Type 0} → Numbering K → List K → List K → Type 0
+ComesBefore numbers x [] = ⊥
+ComesBefore numbers [] (b ∷ y) = Unit {0}
+ComesBefore numbers (a ∷ x) (b ∷ y) = (numbers.place a < numbers.place b) ⊎ ((a ≡ b) × ComesBefore numbers x y)
+
+module _ {K : Type 0} (ring : RingOf K) (numbers : Numbering K) where
+  -- the dimension is 1 to the greatest; at most so many forms, and fewer than the field has elements; no form is zero, and none is a multiple of another
+  pub record IsArrangement (arr : Arrangement K) : Type 0 where
+    pub dim_low : 1 ≤ arr.dim
+    pub dim_high : arr.dim ≤ max_dim
+    pub rows : All (IsRow ring arr.dim) arr.forms
+    pub few_forms : length arr.forms ≤ max_forms
+    pub below_order : length arr.forms < numbers.order
+    pub no_zero : All (λ a. IsFalse (is_zero_row ring a)) arr.forms
+    pub no_multiple : (i j : ℕ) (a b : List K) → i ≢ j → slice_get arr.forms i ≡ Some a → slice_get arr.forms j ≡ Some b → ¬ (IsMultiple ring a b)
+
+  -- the lexicographically least point that lies in no hyperplane
+  pub record IsLeastPointOff (arr : Arrangement K) (x : List K) : Type 0 where
+    pub point : IsRow ring arr.dim x
+    pub off : LiesOff ring arr x
+    pub least : (y : List K) → IsRow ring arr.dim y → LiesOff ring arr y → ¬ (ComesBefore numbers y x)

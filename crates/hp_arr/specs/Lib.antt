@@ -1,0 +1,4 @@
+pub mod Arrangement
+pub mod Flats
+pub mod FormFaults
+pub mod PointSearch

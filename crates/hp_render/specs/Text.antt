@@ -1,0 +1,83 @@
+-- The bytes of an answer and of a refusal's line.
+use Rattle.std.specs.Prelude.{ℕ, List, [], ◌∷◌, ◌++◌, map, flat_map, length, codes, decimal}
+use Rattle.hp_algebra.specs.Ring.{Numbering}
+use Rattle.hp_render.specs.declared.answer.Answer.{Answer}
+use Rattle.hp_render.specs.declared.answer.Answer.TheVariants.{Hyperplanes, Point}
+use Rattle.hp_render.specs.declared.answer.AskWord.{AskWord}
+use Rattle.hp_render.specs.declared.answer.AskWord.TheVariants as asked
+use Rattle.hp_render.specs.declared.refusal.Refusal.{Refusal}
+use Rattle.hp_render.specs.declared.refusal.Refusal.TheVariants.{Syntax, NoField, FieldTwice, FieldNotListed, UnknownName, NameTaken, Dimension, BadIndex, BadGraph, ZeroForm, Repeated, TooMany, BadList, BadLimit, NotBuilt}
+
+-- each piece with a space (32) before it
+abbrev pub behind_spaces : List (List ℕ) → List ℕ
+behind_spaces pieces = flat_map (λ piece. 32 ∷ piece) pieces
+
+-- the pieces with a space between each two
+abbrev pub spaced : List (List ℕ) → List ℕ
+spaced [] = []
+spaced (piece ∷ pieces) = piece ++ behind_spaces pieces
+
+-- the word of a question
+abbrev pub word_text : AskWord → List ℕ
+word_text asked.Hyperplanes = codes "hyperplanes"
+word_text asked.Point = codes "point"
+word_text asked.Rank = codes "rank"
+word_text asked.Flats = codes "flats"
+word_text asked.Poincare = codes "poincare"
+word_text asked.Characteristic = codes "characteristic"
+word_text asked.Triple = codes "triple"
+word_text asked.Circuits = codes "circuits"
+word_text asked.Nbc = codes "nbc"
+word_text asked.Normal = codes "normal"
+word_text asked.Aomoto = codes "aomoto"
+word_text asked.Gb = codes "gb"
+word_text asked.Der = codes "der"
+word_text asked.Resolve = codes "resolve"
+word_text asked.Free = codes "free"
+
+-- the head of an answer: the word that was asked, the name and a colon
+abbrev pub head : AskWord → List ℕ → List ℕ
+head word name = word_text word ++ codes " " ++ name ++ codes ":"
+
+module _ {K : Type 0} (numbers : Numbering K) where
+  -- a field element is printed as its residue
+  abbrev pub element_text : K → List ℕ
+  element_text c = decimal (numbers.place c)
+
+  -- a line of elements
+  abbrev pub elements_line : List K → List ℕ
+  elements_line cs = spaced (map element_text cs) ++ 10 ∷ []
+
+  -- how many hyperplanes in which dimension, and a line for each form
+  abbrev pub hyperplanes_text : List ℕ → ℕ → List (List K) → List ℕ
+  hyperplanes_text name dim forms =
+      head asked.Hyperplanes name ++ codes " " ++ decimal (length forms) ++ codes " in " ++ decimal dim ++ 10 ∷ [] ++ flat_map elements_line forms
+
+  -- the coordinates behind the head
+  abbrev pub point_text : List ℕ → List K → List ℕ
+  point_text name x = head asked.Point name ++ behind_spaces (map element_text x) ++ 10 ∷ []
+
+  abbrev pub answer_text : List ℕ → Answer K → List ℕ
+  answer_text name (Hyperplanes dim forms) = hyperplanes_text name dim forms
+  answer_text name (Point x) = point_text name x
+
+abbrev pub refusal_words : Refusal → List ℕ
+refusal_words (Syntax c) = codes "syntax " ++ decimal c
+refusal_words NoField = codes "no field"
+refusal_words FieldTwice = codes "field twice"
+refusal_words (FieldNotListed p) = codes "field not listed " ++ decimal p
+refusal_words (UnknownName x) = codes "unknown name " ++ x
+refusal_words (NameTaken x) = codes "name taken " ++ x
+refusal_words Dimension = codes "dimension"
+refusal_words (BadIndex i) = codes "bad index " ++ decimal i
+refusal_words (BadGraph k) = codes "bad graph " ++ decimal k
+refusal_words (ZeroForm i) = codes "zero form " ++ decimal i
+refusal_words (Repeated i j) = codes "repeated " ++ decimal i ++ codes " " ++ decimal j
+refusal_words (TooMany n) = codes "too many " ++ decimal n
+refusal_words BadList = codes "bad list"
+refusal_words BadLimit = codes "bad limit"
+refusal_words NotBuilt = codes "not built"
+
+-- the line of a refusal
+abbrev pub refusal_text : ℕ → Refusal → List ℕ
+refusal_text line r = codes "refused line " ++ decimal line ++ codes ": " ++ refusal_words r ++ 10 ∷ []

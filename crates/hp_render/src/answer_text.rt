@@ -1,0 +1,79 @@
+//! The text of an answer.
+
+ghost use Rattle.std.specs.Prelude.{◌≡◌, ◌++◌, flat_map, IfOk, OnOk, OnErr};
+ghost use Rattle.hp_render.specs.Text.{answer_text, elements_line, hyperplanes_text, point_text};
+
+use crate::answer::Answer;
+use crate::numbers::{push_behind_spaces, push_spaced};
+use hp_algebra::{FiniteField, List, NoMem};
+use hp_script::Name;
+use itoa::Buffer;
+use std::alloc::Global;
+
+/// Appends the text of the answer about the arrangement of that name. Where memory is out, nothing is appended.
+pub fn render<K: FiniteField>(
+    answer: &Answer<K>,
+    name: &Name,
+    out: &mut Vec<u8>,
+) -> Result<(), NoMem>
+    ensures whole { OnOk result (out.new.items ≡ out.old.items ++ answer_text K.numbers name.now answer.now) }
+    ensures nothing { OnErr result (out.new.items ≡ out.old.items) }
+{
+    let text = text_of(*out.allocator(), answer, name)?;
+    out.extend_from_slice(&text)?;
+    Ok(())
+}
+
+/// The text of the answer.
+fn text_of<K: FiniteField>(alloc: Global, answer: &Answer<K>, name: &Name) -> Result<Vec<u8>, NoMem>
+    ensures { IfOk result (λ text. text.items ≡ answer_text K.numbers name.now answer.now) }
+{
+    match answer {
+        Answer::Hyperplanes { dim, forms } => hyperplanes_text(alloc, name, *dim, forms.as_slice()),
+        Answer::Point(point) => point_text(alloc, name, point.as_slice()),
+    }
+}
+
+/// The lines of an arrangement: how many hyperplanes in which dimension, and the coefficients of each.
+fn hyperplanes_text<K: FiniteField>(
+    alloc: Global,
+    name: &Name,
+    dim: u32,
+    forms: &[List<K>],
+) -> Result<Vec<u8>, NoMem>
+    ensures { IfOk result (λ text. text.items ≡ hyperplanes_text K.numbers name.now dim forms.now) }
+{
+    let mut buffer = Buffer::new();
+    let mut text = Vec::from_slice(alloc, b"hyperplanes ")?;
+    text.extend_from_slice(name.bytes())?;
+    text.extend_from_slice(b": ")?;
+    text.extend_from_slice(buffer.format(forms.len()).as_bytes())?;
+    text.extend_from_slice(b" in ")?;
+    text.extend_from_slice(buffer.format(dim).as_bytes())?;
+    text.extend_from_slice(b"\n")?;
+    push_lines(forms, &mut text)?;
+    Ok(text)
+}
+
+/// Appends a line for each row.
+fn push_lines<K: FiniteField>(rows: &[List<K>], text: &mut Vec<u8>) -> Result<(), NoMem>
+    ensures { OnOk result (text.new.items ≡ text.old.items ++ flat_map (elements_line K.numbers) rows.now) }
+{
+    for row in rows {
+        push_spaced(row.as_slice(), text)?;
+        text.extend_from_slice(b"\n")?;
+    }
+    Ok(())
+}
+
+/// The line of a point.
+fn point_text<K: FiniteField>(alloc: Global, name: &Name, point: &[K]) -> Result<Vec<u8>, NoMem>
+    ensures { IfOk result (λ text. text.items ≡ point_text K.numbers name.now point.now) }
+{
+    let mut text = Vec::from_slice(alloc, b"point ")?;
+    text.extend_from_slice(name.bytes())?;
+    text.extend_from_slice(b":")?;
+    push_behind_spaces(point, &mut text)?;
+    text.extend_from_slice(b"\n")?;
+    Ok(text)
+}

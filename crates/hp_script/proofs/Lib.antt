@@ -1,0 +1,11 @@
+pub mod Cutting
+pub mod Loop
+pub mod Exact
+pub mod Combine
+pub mod Singles
+pub mod Productions
+pub mod ExactLine
+pub mod Columns
+pub mod OneReading
+pub mod Short
+pub mod Parsing

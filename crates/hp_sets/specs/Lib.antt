@@ -1,0 +1,4 @@
+pub mod BitLaws
+pub mod Bits
+pub mod ListedOrder
+pub mod Sets

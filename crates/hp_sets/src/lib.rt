@@ -1,0 +1,10 @@
+//! Finite sets of the numbers 1 to 64, in one word each, with the order in which sets are listed.
+#![tactic(auto)]
+
+mod flat;
+mod set;
+#[cfg(test)]
+mod tests;
+
+pub use flat::Flat;
+pub use set::HSet;

@@ -1,6 +1,0 @@
-use Rattle.std.proofs.Common.{◌≡◌, ◌<◌, ◌^◌, take}
-use Rattle.hp_top.specs.Tokens.{number_of}
-use Rattle.hp_top.proofs.script.digits.number_of.Given as goal
-
-abbrev pub invariant-digit : goal.invariant-digit
-invariant-digit l = record { value : l.n ≡ number_of (take l.b-index l.digits); short : l.n < 10 ^ l.b-index }
