@@ -53,7 +53,10 @@ fn residues_by_the_ring(rt: HostRuntime) -> Result<(), Fail> {
     assert!(rt; !x.is_zero());
     assert_eq!(rt; greatest_weight([x, y].as_slice()), 0);
     let (left, right) = ([K::new(1), K::new(2)], [K::new(3), K::new(4)]);
-    assert_eq!(rt; dot(alloc, left.as_slice(), right.as_slice())?.residue(), 11);
+    assert_eq!(rt;
+        dot(alloc, left.as_slice(), right.as_slice())?.residue(),
+        11
+    );
     assert!(rt; !product_vanishes(&x, &y));
     assert!(rt; product_vanishes(&x, &K::new(0)));
     Ok(())
