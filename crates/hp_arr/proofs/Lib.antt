@@ -5,3 +5,4 @@ pub mod Firsts
 pub mod LeastPoint
 pub mod Multiples
 pub mod Pigeonhole
+mod Worked

@@ -1,6 +1,6 @@
 -- The places of the members of a set in rising order.
-use Rattle.std.specs.Prelude.{◌≡◌, ℕ, zero, suc, ◌+◌, ◌-◌, ◌<◌, ◌≤◌, Bool, true, false, cond, not, ◌&&◌, nat_lt, min, [], ◌∷◌, length, filter, drop, Contains, count_by, slice_get, Option, Some, None, is_some, IsNone, IfSome, ◌⊎◌, ◌↔◌}
-use Rattle.std.proofs.lemmas.Bool.{lt-ltb, le-ltb, cases_Bool, cases_lt}
+use Rattle.std.specs.Prelude.{◌≡◌, ℕ, zero, suc, ◌+◌, ◌-◌, ◌<◌, ◌≤◌, true, false, cond, not, ◌&&◌, nat_lt, min, [], ◌∷◌, length, filter, drop, Contains, count_by, slice_get, Option, Some, None, is_some, IsNone, IfSome, ◌⊎◌, ◌↔◌}
+use Rattle.std.proofs.lemmas.Bool.{lt-ltb, le-ltb, cases_lt}
 use Rattle.std.proofs.lemmas.Option.{slice_get_past, slice_get-get_or}
 use Rattle.std.proofs.lemmas.List.Elements.{All-drop, Contains-get_or}
 use Rattle.std.proofs.lemmas.List.Sums.{length-filter}
@@ -9,9 +9,9 @@ use mathlib.Core.Path.{refl, sym, ap, ◌∙◌, subst}
 use native.Mathlib.Omega.{arith}
 use Rattle.hp_algebra.proofs.Members.{Contains-here, Contains-later, Contains-cases, Contains-none}
 use Rattle.hp_algebra.proofs.Rising.{Rises, rises_of, increasing_of}
-use Rattle.hp_sets.specs.Sets.{Set, IsSetWithin, contains, minus, without_member, is_within, IsLeast, IsGreatest, HasSmaller}
-use Rattle.hp_sets.proofs.SetLaws.{contains-Contains, Contains-contains, test-ext, set-ext, those-set}
-use Rattle.hp_sets.proofs.SetMembers.{without-members, members-without, minus-members, members-minus}
+use Rattle.hp_sets.specs.Sets.{Set, IsSetWithin, contains, without_member, IsLeast, IsGreatest, HasSmaller}
+use Rattle.hp_sets.proofs.SetLaws.{set-ext, those-set}
+use Rattle.hp_sets.proofs.SetMembers.{without-members, members-without}
 
 pub get-Contains : (s : Set) (k i : ℕ) → slice_get s k ≡ Some i → Contains s i
 get-Contains [] k i e = cc

@@ -2,12 +2,10 @@
 use Rattle.std.specs.Prelude.{◌≡◌, ◌↔◌, ℕ, zero, suc, ◌+◌, ◌<◌, ◌≤◌, ◌==◌, Bool, true, false, cond, List, [], ◌∷◌, ◌++◌, map, length, Contains, ◌⊎◌}
 use Rattle.std.specs.List.{range_with_len}
 use Rattle.std.specs.List.Sorted.{IsStrictlySortedBy}
-use Rattle.std.specs.declared.cmp.Ordering.{Ordering}
 use Rattle.std.specs.declared.cmp.Ordering.TheVariants.{Less, Equal, Greater}
-use Rattle.std.specs.Ordering.{nat_cmp, ordering_then, ordering_reverse}
-use Rattle.std.specs.Cmp.{IsTotalOrder}
+use Rattle.std.specs.Ordering.{nat_cmp, ordering_then}
 use Rattle.std.specs.Cmp.Lexicographic.{slice_cmp}
-use Rattle.std.proofs.lemmas.List.Elements.{All-contains, All-from_recursion, recursion_from_All, Contains-append_left, Contains-append_right, Contains-append_cases, Contains-get_or}
+use Rattle.std.proofs.lemmas.List.Elements.{All-contains, Contains-append_left, Contains-append_right, Contains-append_cases, Contains-get_or}
 use Rattle.std.proofs.lemmas.Bool.{eqb-true, eqb-false, eq-eqb, lt-ltb, le-ltb}
 use mathlib.Core.Logic.{inl, inr}
 use mathlib.Core.Path.{refl, sym, ap, ◌∙◌, subst}
@@ -15,7 +13,7 @@ use native.Mathlib.Omega.{arith}
 use Rattle.hp_algebra.specs.Lists.{one_to, sublists_of_length}
 use Rattle.hp_sets.specs.Sets.{Set, IsSetWithin, cmp_listed, sets_of_at_most, sets_within}
 use Rattle.hp_algebra.proofs.Members.{Contains-here, Contains-later, Contains-cases, Contains-none, Contains-map, map-Contains}
-use Rattle.hp_algebra.proofs.Rising.{ordered-ext, Ordered, Ordered-append, Rises, rises_of, increasing_of}
+use Rattle.hp_algebra.proofs.Rising.{Ordered, Ordered-append, Rises, rises_of, increasing_of, sorted_of}
 
 -- ---- rising lists within a range
 
@@ -246,3 +244,6 @@ at_most-rise n (suc k) =
 pub sets-rise : (n : ℕ) → Ordered IsListedBefore (sets_within n)
 unfolding sets_within
 sets-rise n = at_most-rise n n
+
+pub sets_within-sorted : (n : ℕ) → IsStrictlySortedBy cmp_listed (sets_within n)
+sets_within-sorted n = sorted_of cmp_listed (sets_within n) (sets-rise n)

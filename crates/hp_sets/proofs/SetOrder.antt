@@ -1,6 +1,5 @@
 -- The order in which sets are listed.
-use Rattle.std.specs.Prelude.{◌≡◌, ℕ, zero, suc, ◌+◌, ◌<◌, ◌≤◌, true, false, not, ◌&&◌, ◌||◌, [], ◌∷◌, length, slice_get, Some, None, Contains, ◌⊎◌}
-use Rattle.std.specs.declared.cmp.Ordering.{Ordering}
+use Rattle.std.specs.Prelude.{◌≡◌, ℕ, suc, ◌<◌, ◌≤◌, true, false, not, ◌&&◌, ◌||◌, [], ◌∷◌, length, slice_get, Some, None, Contains, ◌⊎◌}
 use Rattle.std.specs.declared.cmp.Ordering.TheVariants.{Less, Equal, Greater}
 use Rattle.std.specs.Ordering.{nat_cmp, ordering_then, ordering_reverse}
 use Rattle.std.specs.Cmp.Lexicographic.{slice_cmp, nat_list_cmp_total}
@@ -43,7 +42,7 @@ slice_cmp-apart (x ∷ s) (y ∷ t) d p q e h = step (cases_order x y) (slice_cm
     less : (a b : ℕ) → suc a ≡ suc b → a ≡ b
     less a b e = omega arith
 
-    -- what is in a rising list, and not its first, is above it
+    -- what is in a list and is not its first is in the rest
     rest : (z : ℕ) (us : Set) (j : ℕ) → (z ≡ j → ⊥) → Contains (z ∷ us) j → Contains us j
     rest z us j n c = pick (Contains-cases z us j c)
       where

@@ -1,6 +1,6 @@
 -- A set within another, and what one of two sets has alone.
 use Rattle.std.specs.Prelude.{◌≡◌, ◌↔◌, ℕ, suc, ◌<◌, ◌≤◌, Bool, true, false, not, ◌&&◌, [], ◌∷◌, length, Contains, ◌⊎◌}
-use Rattle.std.proofs.lemmas.Bool.{cases_Bool, and_parts}
+use Rattle.std.proofs.lemmas.Bool.{cases_Bool, cases_eq, cases_lt, and_parts, not_from_true}
 use mathlib.Core.Logic.{inl, inr}
 use mathlib.Core.Path.{refl, sym, ap, ◌∙◌, subst}
 use native.Mathlib.Omega.{arith}
@@ -59,6 +59,59 @@ length-rising (x ∷ s) (y ∷ t) p q f = more (length s) (length t) (length-ris
 
 pub length-is_within : (m k : ℕ) (s t : Set) → IsSetWithin m s → IsSetWithin k t → is_within s t ≡ true → length s ≤ length t
 length-is_within m k s t p q f = length-rising s t (rises_of s p.rising) (rises_of t q.rising) (λ i c. is_within-members s t i f c)
+
+-- with a member more the other is longer
+length-rising_less : (s t : Set) (i : ℕ) → Rises s → Rises t → ((j : ℕ) → Contains s j → Contains t j) → Contains t i → (Contains s i → ⊥) → length s < length t
+length-rising_less s [] i p q f c n = absurd (Contains-none i c)
+length-rising_less [] (y ∷ t) i p q f c n = omega arith
+length-rising_less (x ∷ s) (y ∷ t) i p q f c n = step (cases_eq y x) (length-rising_less s t i p.1 q.1)
+  where
+    more : (a b : ℕ) → a < b → suc a < suc b
+    more a b l = omega arith
+
+    under : (a b : ℕ) → a ≤ b → a < suc b
+    under a b l = omega arith
+
+    clash : (x y j : ℕ) → y < x → x < j → y ≡ j → ⊥
+    clash x y j l m e = omega arith
+
+    -- where the first of t is not the first of s, it is not in s
+    missing : (y ≡ x → ⊥) → (j : ℕ) → (x ≡ j) ⊎ Contains s j → y ≡ j → ⊥
+    missing d j (inl e) g = d (g ∙ sym e)
+    missing d j (inr m) g = clash x y j (q.0 x (rest y t x d (f x (Contains-here x s)))) (p.0 j m) g
+
+    step : (y ≡ x) ⊎ (y ≡ x → ⊥) → (((j : ℕ) → Contains s j → Contains t j) → Contains t i → (Contains s i → ⊥) → length s < length t) → length (x ∷ s) < length (y ∷ t)
+    step (inl e) ih = more (length s) (length t) (ih
+        (λ j m. rest y t j (λ g. apart x j (p.0 j m) (sym e ∙ g)) (f j (Contains-later x s j m)))
+        (rest y t i (λ g. n (subst (Contains (x ∷ s)) (sym e ∙ g) (Contains-here x s))) c)
+        (λ m. n (Contains-later x s i m)))
+    step (inr d) ih = under (length (x ∷ s)) (length t) (length-rising (x ∷ s) t p q.1 (λ j m. rest y t j (missing d j (Contains-cases x s j m)) (f j m)))
+
+-- a set properly within another is smaller
+pub length-is_properly_within : (m k : ℕ) (s t : Set) → IsSetWithin m s → IsSetWithin k t → is_properly_within s t ≡ true → length s < length t
+length-is_properly_within m k s t p q h = step (cases_lt (length s) (length t))
+  where
+    both : (is_within s t ≡ true) × (not (is_within t s) ≡ true)
+    both = and_parts (is_within s t) (not (is_within t s)) h
+
+    inside : (j : ℕ) → Contains s j → Contains t j
+    inside j c = is_within-members s t j both.0 c
+
+    -- a member that is missing would make it longer
+    back : length t ≤ length s → (i : ℕ) → Contains t i → Contains s i
+    back l i c = pick (cases_Bool (contains s i))
+      where
+        clash : (a b : ℕ) → a < b → b ≤ a → ⊥
+        clash a b l m = omega arith
+
+        pick : (contains s i ≡ true) ⊎ (contains s i ≡ false) → Contains s i
+        pick (inl e) = contains-Contains s i e
+        pick (inr e) = absurd (clash (length s) (length t)
+            (length-rising_less s t i (rises_of s p.rising) (rises_of t q.rising) inside c (λ d. not_both (contains s i) (Contains-contains s i d) e)) l)
+
+    step : (length s < length t) ⊎ (length t ≤ length s) → length s < length t
+    step (inl l) = l
+    step (inr l) = absurd (not_both (not (is_within t s)) both.1 (not_from_true (is_within t s) (members-is_within t s (back l))))
 
 -- ---- members in one of two sets alone
 

@@ -2,7 +2,7 @@
 
 use crate::HSet;
 
-/// A flat of an arrangement: the hyperplanes that hold it, by their numbers, and its rank.
+/// A flat of an arrangement: its rank, and the numbers of the hyperplanes that contain it.
 #[derive(Clone, Copy, Debug, PartialEq, Eq)]
 pub struct Flat {
     pub rank: u32,

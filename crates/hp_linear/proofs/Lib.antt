@@ -1,0 +1,17 @@
+pub mod Combinations
+pub mod Dependence
+pub mod Dimension
+pub mod Dots
+pub mod EchelonForms
+pub mod EchelonLaws
+pub mod Existence
+pub mod Inverses
+pub mod Kernels
+pub mod Members
+pub mod Ordered
+pub mod Points
+pub mod Reduction
+pub mod Rows
+pub mod Solutions
+pub mod Systems
+pub mod Units

@@ -1,0 +1,8 @@
+use Rattle.std.proofs.Common.{◌≡◌, ◌<◌, ◌++◌, [], ◌∷◌, ℕ, length, get_or, Vec, Global}
+use Rattle.hp_linear.proofs.matrix.Matrix.with_column.Given as goal
+
+abbrev pub invariant-loop-k : goal.invariant-loop-k
+invariant-loop-k g l = record {
+  long : length l.rows.items ≡ l.k;
+  each : (h : ℕ) (d : Vec g.row.F.Denot Global) → h < l.k → (get_or l.rows.items h d).items ≡ get_or l.self.rows h [] ++ get_or l.b h g.F.Ring.ring.zero ∷ [];
+}

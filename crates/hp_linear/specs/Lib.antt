@@ -1,0 +1,5 @@
+pub mod Echelon
+pub mod Matrices
+pub mod Points
+pub mod Rows
+pub mod Spaces

@@ -1,0 +1,2 @@
+field 31
+let A = forms 9 []
