@@ -1,7 +1,7 @@
 //! The calls at the residues modulo 31, with answers worked by hand.
 
 use crate::Matrix;
-use hp_algebra::{Field, FiniteField, NoMem};
+use hp_algebra::{Field, FiniteField, NoMem, dot};
 use hp_modp::{Gf, P31};
 use std::alloc::{AllocError, Global};
 use std::process::Abort;
@@ -191,6 +191,24 @@ fn inverses(rt: HostRuntime) -> Result<(), Fail> {
                 assert!(rt; found.is_none(), "{rows:?}");
             }
         }
+    }
+    Ok(())
+}
+
+#[test]
+fn sums_of_products(rt: HostRuntime) -> Result<(), Fail> {
+    let alloc = rt.alloc();
+    let table: [(&[i64], &[i64], u32); 4] = [
+        (&[1, 2], &[3, 4], 11),
+        (&[], &[], 0),
+        (&[30], &[30], 1),
+        (&[5, 7, -1], &[6, 9, 1], 30),
+    ];
+    for (a, b, sum) in table {
+        let left = row(alloc, a)?;
+        let right = row(alloc, b)?;
+        assert!(rt; left.len() == right.len());
+        assert_eq!(rt; dot(alloc, &left, &right)?.residue(), sum, "{a:?} {b:?}");
     }
     Ok(())
 }
