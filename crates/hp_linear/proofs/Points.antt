@@ -6,7 +6,7 @@ use Rattle.std.proofs.lemmas.List.FromFn.{get_or-map-range_with_len, length-map-
 use Rattle.std.proofs.lemmas.List.Elements.{All-nil, All-head, All-contains, Contains-append_left, Contains-append_right, Contains-append_cases}
 use native.Mathlib.Nat.{pow-zero, pow-suc}
 use Rattle.hp_algebra.specs.Ring.{RingOf, Numbering, IsField, IsNumbering, dot_of}
-use Rattle.hp_algebra.specs.Lists.{below}
+use Rattle.hp_algebra.specs.Lists.{below, words_over as words}
 use Rattle.hp_linear.specs.Rows.{IsRow, zero_row, row_plus, row_scale, row_times}
 use Rattle.hp_linear.specs.Spaces.{AreIndependent, IsCombination, IsBasisOf}
 use Rattle.hp_linear.specs.Matrices.{Matrix, IsMatrix, IsKernelMember}
@@ -75,11 +75,6 @@ module _ {X Y : Type 0} where
 
 -- ---- words
 
--- all lists of length n with members of xs
-words : {X : Type 0} → List X → ℕ → List (List X)
-words xs zero = [] ∷ []
-words xs (suc n) = flat_map (λ x. map (λ w. x ∷ w) (words xs n)) xs
-
 module _ {X : Type 0} where
   -- the words that begin with a member of ys
   starting-length : (W : List (List X)) (ys : List X) → length (flat_map (λ x. map (λ w. x ∷ w) W) ys) ≡ length ys * length W
@@ -91,7 +86,6 @@ module _ {X : Type 0} where
       more a b = omega arith
 
   words-length : (xs : List X) (n : ℕ) → length (words xs n) ≡ length xs ^ n
-  unfolding words
   words-length xs zero = sym (pow-zero (length xs))
   words-length xs (suc n) = starting-length (words xs n) xs ∙ ap (λ m. length xs * m) (words-length xs n) ∙ turn (length xs) (length xs ^ n) ∙ sym (pow-suc (length xs) n)
     where
@@ -131,7 +125,6 @@ module _ {X : Type 0} where
       (λ u v c d e. (let a = map-Contains (λ w. y ∷ w) W u c in let b = starting-Contains W ys v d in p.0 b.0 b.2 (ap (first_of y) (a.2 ∙ e ∙ sym b.4))))
 
   words-once : (xs : List X) (n : ℕ) → IsOrdered (λ x y. x ≢ y) xs → IsOrdered (λ x y. x ≢ y) (words xs n)
-  unfolding words
   words-once xs zero o = ((λ y c. absurd (Contains-none y c)), tt)
   words-once xs (suc n) o = starting-once (words xs n) xs (words-once xs n o) o
 
@@ -177,14 +170,12 @@ module _ {K : Type 0} {ring : RingOf K} {inverse : K → K} {numbers : Numbering
           longer k n l = omega arith
 
   words-rows : (n : ℕ) (w : List K) → Contains (words elements n) w → IsRow ring n w
-  unfolding words
   words-rows zero w c = elim (Contains-cases [] [] w c) [ inl e ↦ subst (IsRow ring 0) e (refl, All-nil ring.IsValue) | inr d ↦ absurd (Contains-none w d) ]
   words-rows (suc n) w c =
       let u = starting-Contains (words elements n) elements w c in
       subst (IsRow ring (suc n)) u.4 (row-cons field.is_ring n u.0 u.1 (elements-value u.0 u.2) (words-rows n u.1 u.3))
 
   rows-words : (n : ℕ) (w : List K) → IsRow ring n w → Contains (words elements n) w
-  unfolding words
   rows-words zero [] r = Contains-here [] []
   rows-words zero (x ∷ w) r = absurd (omega (arith, r.0))
   rows-words (suc n) [] r = absurd (omega (arith, r.0))
