@@ -66,5 +66,23 @@ prime_from_passes p n t =
     let square : p < (n + 2) * (n + 2) = grind (arith, nat_tests, rest.0) in
     record { above_one = above; divisors = λ d h. divisors_of p n d above square rest.1 h }
 
+pub prime_5 : IsPrime 5
+prime_5 = prime_from_passes 5 1 refl
+
+pub prime_7 : IsPrime 7
+prime_7 = prime_from_passes 7 1 refl
+
+pub prime_13 : IsPrime 13
+prime_13 = prime_from_passes 13 2 refl
+
 pub prime_31 : IsPrime 31
-prime_31 = prime_from_passes 31 5 refl
+prime_31 = prime_from_passes 31 4 refl
+
+pub prime_101 : IsPrime 101
+prime_101 = prime_from_passes 101 9 refl
+
+pub prime_251 : IsPrime 251
+prime_251 = prime_from_passes 251 14 refl
+
+pub prime_32003 : IsPrime 32003
+prime_32003 = prime_from_passes 32003 177 refl

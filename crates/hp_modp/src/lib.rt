@@ -7,4 +7,4 @@ mod modulus;
 mod tests;
 
 pub use gf::Gf;
-pub use modulus::{Modulus, P31};
+pub use modulus::{Modulus, P5, P7, P13, P31, P101, P251, P32003, listed};

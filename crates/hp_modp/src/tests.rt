@@ -1,6 +1,9 @@
-//! The calls of `Gf` at 31, compared with residues worked by hand, and the generic calls of the algebra at this field.
+//! The calls of `Gf` at 31, compared with residues worked by hand, the generic calls of the algebra at this field, and
+//! the bounds of each of the seven fields.
 
-use crate::{Gf, P31};
+ghost use Rattle.std.specs.Prelude.{◌<◌};
+
+use crate::{Gf, P5, P7, P13, P31, P101, P251, P32003, listed};
 use hp_algebra::{Domain, Field, FiniteField, Ring, dot, greatest_weight, product_is_zero};
 use std::test::Fail;
 
@@ -78,4 +81,62 @@ fn elements_by_number(rt: HostRuntime) {
     }
     assert_eq!(rt; K::nth(17).place(), 17);
     assert_eq!(rt; K::ORDER, 31);
+}
+
+/// The order, and the places of the last element, of -1, of the order times one, of 1 / 2 and of 2 / 2.
+fn places<K: FiniteField>(last: u32) -> Option<[u32; 6]>
+    requires { last < K.ORDER }
+{
+    let two = K::from_i64(2);
+    let half = two.inv()?;
+    Some([
+        K::ORDER,
+        K::nth(last).place(),
+        K::from_i64(-1).place(),
+        K::from_i64(K::ORDER as i64).place(),
+        half.place(),
+        half.times(two).place(),
+    ])
+}
+
+#[test]
+fn bounds_of_the_seven_fields(rt: HostRuntime) -> Result<(), Fail> {
+    for (found, expected) in [
+        (places::<Gf<P5>>(4), [5, 4, 4, 0, 3, 1]),
+        (places::<Gf<P7>>(6), [7, 6, 6, 0, 4, 1]),
+        (places::<Gf<P13>>(12), [13, 12, 12, 0, 7, 1]),
+        (places::<Gf<P31>>(30), [31, 30, 30, 0, 16, 1]),
+        (places::<Gf<P101>>(100), [101, 100, 100, 0, 51, 1]),
+        (places::<Gf<P251>>(250), [251, 250, 250, 0, 126, 1]),
+        (
+            places::<Gf<P32003>>(32002),
+            [32003, 32002, 32002, 0, 16002, 1],
+        ),
+    ] {
+        assert_eq!(rt; found.ok_or("none")?, expected);
+    }
+    Ok(())
+}
+
+#[test]
+fn listed_primes(rt: HostRuntime) {
+    for p in [5, 7, 13, 31, 101, 251, 32003] {
+        assert!(rt; listed(p), "{p}");
+    }
+    for p in [
+        0,
+        1,
+        2,
+        3,
+        4,
+        6,
+        11,
+        25,
+        32002,
+        32004,
+        4_294_967_301,
+        u64::MAX,
+    ] {
+        assert!(rt; !listed(p), "{p}");
+    }
 }
