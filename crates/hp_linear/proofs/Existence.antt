@@ -47,7 +47,7 @@ module _ {R : Type 0} {ring : RingOf R} (laws : IsRing ring) where
             },
           )
 
-  reduction : (width : ℕ) (kept : List (PivotRow R)) (old : List R) → IsReduced ring width kept → IsRow ring width old → (row : List R) × IsReductionOf ring width kept old row
+  pub reduction : (width : ℕ) (kept : List (PivotRow R)) (old : List R) → IsReduced ring width kept → IsRow ring width old → (row : List R) × IsReductionOf ring width kept old row
   reduction width kept old is r =
       let w = cleared_up_to width (length kept) kept old is r (omega arith) in (
         w.0,
@@ -89,7 +89,7 @@ module _ {R : Type 0} {ring : RingOf R} (laws : IsRing ring) where
 
   -- ---- solutions
 
-  free_up_to : (width free : ℕ) (kept : List (PivotRow R)) → IsReduced ring width kept → free < width → ((p : PivotRow R) → Contains kept p → p.column ≢ free) → (k : ℕ) → k ≤ length kept
+  pub free_up_to : (width free : ℕ) (kept : List (PivotRow R)) → IsReduced ring width kept → free < width → ((p : PivotRow R) → Contains kept p → p.column ≢ free) → (k : ℕ) → k ≤ length kept
       → (c : List R) × IsFreePart laws width kept free k c
   free_up_to width free kept is l apart zero low = (
     slice_set (zero_row ring width) free ring.one,

@@ -11,7 +11,8 @@ use Rattle.hp_algebra.proofs.Rings.{mul_zero, zero_mul}
 use Rattle.hp_linear.specs.Rows.{IsRow, entry, zero_row, row_plus, row_scale, row_times}
 use Rattle.hp_linear.specs.Spaces.{IsCombination, HaveSameSpan}
 use Rattle.hp_linear.specs.Matrices.{Matrix, IsMatrix, IsInverse, matrix_product, identity_matrix, unit_row, column, joined}
-use Rattle.hp_linear.specs.Echelon.{PivotRow, IsOrdered, IsReduced, rows_of}
+use Rattle.hp_linear.specs.Echelon.{PivotRow, IsReduced, rows_of}
+use Rattle.hp_algebra.proofs.Rising.{Ordered}
 use Rattle.hp_linear.proofs.Members.{Contains-here, Contains-cases, Contains-none}
 use Rattle.hp_linear.proofs.Rows.{down, row-ext, entry-value, entry-zeros, zeros-row, scale-row}
 use Rattle.hp_linear.proofs.Combinations.{times-row, entry-times, span-member, combination-row}
@@ -64,7 +65,7 @@ module _ {X : Type 0} where
   All-rest P (suc n) (x ∷ xs) p = All-rest P n xs (All-tail P x xs p)
 
 -- rising columns that fill a range
-columns-exact : {R : Type 0} (n a : ℕ) (kept : List (PivotRow R)) → IsOrdered (λ p q. p.column < q.column) kept → ((p : PivotRow R) → Contains kept p → a ≤ p.column)
+columns-exact : {R : Type 0} (n a : ℕ) (kept : List (PivotRow R)) → Ordered (λ p q. p.column < q.column) kept → ((p : PivotRow R) → Contains kept p → a ≤ p.column)
     → ((k : ℕ) → a ≤ k → k < a + n → (p : PivotRow R) × Contains kept p × (p.column ≡ k)) → length kept ≤ n
     → (length kept ≡ n) × ((k : ℕ) (d : PivotRow R) → k < n → (get_or kept k d).column ≡ a + k)
 columns-exact zero a kept o low all few = (omega arith, λ k d l. absurd (omega arith))

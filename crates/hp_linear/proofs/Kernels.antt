@@ -10,7 +10,8 @@ use Rattle.hp_algebra.proofs.Rings.{mul_zero, zero_mul}
 use Rattle.hp_linear.specs.Rows.{IsRow, entry, zero_row, row_plus, row_scale, row_times}
 use Rattle.hp_linear.specs.Spaces.{AreCoefficients, IsCombination, HaveSameSpan, IsBasisOf}
 use Rattle.hp_linear.specs.Matrices.{Matrix, IsMatrix, IsKernelMember}
-use Rattle.hp_linear.specs.Echelon.{PivotRow, IsOrdered, IsReduced, IsLeftOf, IsFreeSolution, rows_of}
+use Rattle.hp_linear.specs.Echelon.{PivotRow, IsReduced, IsLeftOf, IsFreeSolution, rows_of}
+use Rattle.hp_algebra.proofs.Rising.{Ordered}
 use Rattle.hp_linear.proofs.Members.{Contains-here, Contains-later, Contains-cases, Contains-none, Contains-map, map-Contains, each-All}
 use Rattle.hp_linear.proofs.Ordered.{ordered-at, ordered-push}
 use Rattle.hp_linear.proofs.Rows.{scale-row, plus-row, entry-value, entry-plus, entry-scale, entry-zeros, zero_row-ext, zeros-plus, plus-undo, scale-one}
@@ -107,7 +108,7 @@ module _ {R : Type 0} {ring : RingOf R} (laws : IsRing ring) where
     pub each : (q : PivotRow R) → Contains made q → IsFreeSolution ring width kept q.column q.entries
     pub free : (q : PivotRow R) → Contains made q → (p : PivotRow R) → Contains kept p → p.column ≢ q.column
     pub below : (q : PivotRow R) → Contains made q → q.column < k
-    pub ordered : IsOrdered (λ p q. p.column < q.column) made
+    pub ordered : Ordered (λ p q. p.column < q.column) made
     pub complete : (j : ℕ) → j < k → ((p : PivotRow R) → Contains kept p → p.column ≢ j) → (q : PivotRow R) × Contains made q × (q.column ≡ j)
 
   -- nothing more at a column with a pivot
@@ -187,7 +188,7 @@ module _ {R : Type 0} {ring : RingOf R} (laws : IsRing ring) where
       more : (a k : ℕ) → a < k → a < k + 1
       more a k l = omega arith
 
-  pub pivots-one : (k : ℕ) (kept : List (PivotRow R)) (p : PivotRow R) → IsOrdered (λ p q. p.column < q.column) kept → Contains kept p → p.column ≡ k → pivots_below (k + 1) kept ≡ suc (pivots_below k kept)
+  pub pivots-one : (k : ℕ) (kept : List (PivotRow R)) (p : PivotRow R) → Ordered (λ p q. p.column < q.column) kept → Contains kept p → p.column ≡ k → pivots_below (k + 1) kept ≡ suc (pivots_below k kept)
   unfolding pivots_below
   pivots-one k [] p o c e = absurd (Contains-none p c)
   pivots-one k (q ∷ kept) p o c e = step (Contains-cases q kept p c) (pivots-one k kept p o.1)
@@ -234,10 +235,10 @@ module _ {R : Type 0} {ring : RingOf R} (laws : IsRing ring) where
       none : 0 + 0 ≡ 0
       none = omega arith
 
-  pub columns-rise : (width : ℕ) (kept : List (PivotRow R)) → IsReduced ring width kept → IsOrdered (λ p q. p.column < q.column) kept
+  pub columns-rise : (width : ℕ) (kept : List (PivotRow R)) → IsReduced ring width kept → Ordered (λ p q. p.column < q.column) kept
   columns-rise width kept is = weaker kept is.ordered
     where
-      weaker : (xs : List (PivotRow R)) → IsOrdered (IsLeftOf ring) xs → IsOrdered (λ (p q : PivotRow R). p.column < q.column) xs
+      weaker : (xs : List (PivotRow R)) → Ordered (IsLeftOf ring) xs → Ordered (λ (p q : PivotRow R). p.column < q.column) xs
       weaker [] o = tt
       weaker (x ∷ xs) o = ((λ y c. (o.0 y c).left), weaker xs o.1)
 

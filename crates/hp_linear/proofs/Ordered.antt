@@ -3,7 +3,7 @@ use Rattle.std.proofs.Common.{◌≡◌, ◌⊎◌, ℕ, zero, suc, ◌<◌, ◌
 use Rattle.std.specs.List.{insert}
 use Rattle.std.proofs.lemmas.List.Elements.{Contains-get_or, Contains-append_cases}
 use Rattle.std.proofs.lemmas.List.{get_or_default}
-use Rattle.hp_linear.specs.Echelon.{IsOrdered}
+use Rattle.hp_algebra.proofs.Rising.{Ordered}
 use Rattle.hp_linear.proofs.Members.{Contains-here, Contains-later, Contains-cases, Contains-none, map-Contains}
 
 module _ {X : Type 0} where
@@ -35,7 +35,7 @@ module _ {X : Type 0} where
 
 module _ {X : Type 0} (Before : X → X → Type 0) where
   -- of two places the earlier has the earlier member
-  pub ordered-at : (xs : List X) (h k : ℕ) (d : X) → IsOrdered Before xs → h < k → k < length xs → Before (get_or xs h d) (get_or xs k d)
+  pub ordered-at : (xs : List X) (h k : ℕ) (d : X) → Ordered Before xs → h < k → k < length xs → Before (get_or xs h d) (get_or xs k d)
   ordered-at [] h k d p l m = absurd (omega arith)
   ordered-at (x ∷ xs) h zero d p l m = absurd (omega arith)
   ordered-at (x ∷ xs) zero (suc k) d p l m = p.0 _ (Contains-get_or xs k d (shorter k (length xs) m))
@@ -48,7 +48,7 @@ module _ {X : Type 0} (Before : X → X → Type 0) where
       shorter k n l = omega arith
 
   -- one more member at a place where it fits
-  pub ordered-insert : (xs : List X) (i : ℕ) (x : X) → IsOrdered Before xs → i ≤ length xs → ((k : ℕ) → k < i → Before (get_or xs k x) x) → ((k : ℕ) → i ≤ k → k < length xs → Before x (get_or xs k x)) → IsOrdered Before (insert xs i x)
+  pub ordered-insert : (xs : List X) (i : ℕ) (x : X) → Ordered Before xs → i ≤ length xs → ((k : ℕ) → k < i → Before (get_or xs k x) x) → ((k : ℕ) → i ≤ k → k < length xs → Before x (get_or xs k x)) → Ordered Before (insert xs i x)
   ordered-insert [] zero x p w f g = ((λ y c. absurd (Contains-none y c)), tt)
   ordered-insert [] (suc i) x p w f g = ((λ y c. absurd (Contains-none y c)), tt)
   ordered-insert (y ∷ xs) zero x p w f g = ((λ z c. after z c), p)
@@ -77,7 +77,7 @@ module _ {X : Type 0} (Before : X → X → Type 0) where
       here z (inr c) = p.0 z c
 
   -- one more member at the end
-  pub ordered-push : (xs : List X) (x : X) → IsOrdered Before xs → ((y : X) → Contains xs y → Before y x) → IsOrdered Before (xs ++ x ∷ [])
+  pub ordered-push : (xs : List X) (x : X) → Ordered Before xs → ((y : X) → Contains xs y → Before y x) → Ordered Before (xs ++ x ∷ [])
   ordered-push [] x p f = ((λ y c. absurd (Contains-none y c)), tt)
   ordered-push (y ∷ xs) x p f = (
     (λ z c. here z (Contains-append_cases xs (x ∷ []) z c)),
@@ -89,7 +89,7 @@ module _ {X : Type 0} (Before : X → X → Type 0) where
       here z (inr c) = elim (Contains-cases x [] z c) [ inl e ↦ subst (Before y) e (f y (Contains-here y xs)) | inr d ↦ absurd (Contains-none z d) ]
 
   -- the members after a map
-  pub ordered-map : (f : X → X) (xs : List X) → ((x y : X) → Contains xs x → Contains xs y → Before x y → Before (f x) (f y)) → IsOrdered Before xs → IsOrdered Before (map f xs)
+  pub ordered-map : (f : X → X) (xs : List X) → ((x y : X) → Contains xs x → Contains xs y → Before x y → Before (f x) (f y)) → Ordered Before xs → Ordered Before (map f xs)
   ordered-map f [] keeps p = tt
   ordered-map f (x ∷ xs) keeps p = (
     (λ z c. (let w = map-Contains f xs z c in subst (Before (f x)) w.2 (keeps x w.0 (Contains-here x xs) (Contains-later x xs w.0 w.1) (p.0 w.0 w.1)))),

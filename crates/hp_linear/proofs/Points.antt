@@ -10,7 +10,7 @@ use Rattle.hp_algebra.specs.Lists.{below, words_over as words}
 use Rattle.hp_linear.specs.Rows.{IsRow, zero_row, row_plus, row_scale, row_times}
 use Rattle.hp_linear.specs.Spaces.{AreIndependent, IsCombination, IsBasisOf}
 use Rattle.hp_linear.specs.Matrices.{Matrix, IsMatrix, IsKernelMember}
-use Rattle.hp_linear.specs.Echelon.{IsOrdered}
+use Rattle.hp_algebra.proofs.Rising.{Ordered}
 use Rattle.hp_linear.specs.Points.{ListsOnce}
 use Rattle.hp_linear.proofs.Members.{Contains-here, Contains-later, Contains-cases, Contains-none, Contains-map, map-Contains, each-All}
 use Rattle.hp_linear.proofs.Dependence.{Pick, here, later, pick-length}
@@ -38,7 +38,7 @@ module _ {X : Type 0} where
       step (inr d) ih = elim (ih d) [ inl e ↦ inl e | inr i ↦ inr (Contains-later y others z i) ]
 
   -- a list without repeats is no longer than one that has its members
-  pub once-few : (xs ys : List X) → IsOrdered (λ x y. x ≢ y) xs → ((z : X) → Contains xs z → Contains ys z) → length xs ≤ length ys
+  pub once-few : (xs ys : List X) → Ordered (λ x y. x ≢ y) xs → ((z : X) → Contains xs z → Contains ys z) → length xs ≤ length ys
   once-few [] ys o h = omega arith
   once-few (x ∷ xs) ys o h =
       let w = pick_out ys x (h x (Contains-here x xs)) in
@@ -58,7 +58,7 @@ module _ {X : Type 0} where
       meet : (a b : ℕ) → a ≤ b → b ≤ a → a ≡ b
       meet a b l m = omega arith
 
-  once-append : (xs ys : List X) → IsOrdered (λ x y. x ≢ y) xs → IsOrdered (λ x y. x ≢ y) ys → ((x y : X) → Contains xs x → Contains ys y → x ≢ y) → IsOrdered (λ x y. x ≢ y) (xs ++ ys)
+  once-append : (xs ys : List X) → Ordered (λ x y. x ≢ y) xs → Ordered (λ x y. x ≢ y) ys → ((x y : X) → Contains xs x → Contains ys y → x ≢ y) → Ordered (λ x y. x ≢ y) (xs ++ ys)
   once-append [] ys p q h = q
   once-append (x ∷ xs) ys p q h = (
     (λ y c. elim (Contains-append_cases xs ys y c) [ inl d ↦ p.0 y d | inr d ↦ h x y (Contains-here x xs) d ]),
@@ -66,7 +66,7 @@ module _ {X : Type 0} where
   )
 
 module _ {X Y : Type 0} where
-  once-map : (f : X → Y) (xs : List X) → ((x y : X) → Contains xs x → Contains xs y → f x ≡ f y → x ≡ y) → IsOrdered (λ x y. x ≢ y) xs → IsOrdered (λ x y. x ≢ y) (map f xs)
+  once-map : (f : X → Y) (xs : List X) → ((x y : X) → Contains xs x → Contains xs y → f x ≡ f y → x ≡ y) → Ordered (λ x y. x ≢ y) xs → Ordered (λ x y. x ≢ y) (map f xs)
   once-map f [] inj o = tt
   once-map f (x ∷ xs) inj o = (
     (λ y c e. (let w = map-Contains f xs y c in o.0 w.0 w.1 (inj x w.0 (Contains-here x xs) (Contains-later x xs w.0 w.1) (e ∙ sym w.2)))),
@@ -117,14 +117,14 @@ module _ {X : Type 0} where
   rest_of [] = []
   rest_of (x ∷ xs) = xs
 
-  starting-once : (W : List (List X)) (ys : List X) → IsOrdered (λ x y. x ≢ y) W → IsOrdered (λ x y. x ≢ y) ys → IsOrdered (λ x y. x ≢ y) (flat_map (λ x. map (λ w. x ∷ w) W) ys)
+  starting-once : (W : List (List X)) (ys : List X) → Ordered (λ x y. x ≢ y) W → Ordered (λ x y. x ≢ y) ys → Ordered (λ x y. x ≢ y) (flat_map (λ x. map (λ w. x ∷ w) W) ys)
   unfolding first_of rest_of
   starting-once W [] o p = tt
   starting-once W (y ∷ ys) o p =
       once-append (map (λ w. y ∷ w) W) _ (once-map (λ w. y ∷ w) W (λ u v c d e. ap rest_of e) o) (starting-once W ys o p.1)
       (λ u v c d e. (let a = map-Contains (λ w. y ∷ w) W u c in let b = starting-Contains W ys v d in p.0 b.0 b.2 (ap (first_of y) (a.2 ∙ e ∙ sym b.4))))
 
-  words-once : (xs : List X) (n : ℕ) → IsOrdered (λ x y. x ≢ y) xs → IsOrdered (λ x y. x ≢ y) (words xs n)
+  pub words-once : (xs : List X) (n : ℕ) → Ordered (λ x y. x ≢ y) xs → Ordered (λ x y. x ≢ y) (words xs n)
   words-once xs zero o = ((λ y c. absurd (Contains-none y c)), tt)
   words-once xs (suc n) o = starting-once (words xs n) xs (words-once xs n o) o
 
@@ -150,7 +150,7 @@ module _ {K : Type 0} {ring : RingOf K} {inverse : K → K} {numbers : Numbering
       let h = num.place_below x v in
       (numbers.place x, subst (λ n. numbers.place x < n) (sym elements-length) h, element-at (numbers.place x) x h ∙ num.nth_of_place x v)
 
-  elements-once : IsOrdered (λ x y. x ≢ y) elements
+  pub elements-once : Ordered (λ x y. x ≢ y) elements
   elements-once = from_places elements (λ h k d l m e.
       let hk : k < numbers.order = subst (λ n. k < n) elements-length m in
       let hh : h < numbers.order = omega (arith, l, hk) in
@@ -159,7 +159,7 @@ module _ {K : Type 0} {ring : RingOf K} {inverse : K → K} {numbers : Numbering
       apart : (h k : ℕ) → h < k → h ≡ k → ⊥
       apart h k l e = omega arith
 
-      from_places : (xs : List K) → ((h k : ℕ) (d : K) → h < k → k < length xs → get_or xs h d ≢ get_or xs k d) → IsOrdered (λ x y. x ≢ y) xs
+      from_places : (xs : List K) → ((h k : ℕ) (d : K) → h < k → k < length xs → get_or xs h d ≢ get_or xs k d) → Ordered (λ x y. x ≢ y) xs
       from_places [] f = tt
       from_places (x ∷ xs) f = (
         (λ y c e. f 0 (suc c.0) y (omega arith) (longer c.0 (length xs) c.1) (e ∙ sym c.2)),
@@ -169,13 +169,13 @@ module _ {K : Type 0} {ring : RingOf K} {inverse : K → K} {numbers : Numbering
           longer : (k n : ℕ) → k < n → suc k < suc n
           longer k n l = omega arith
 
-  words-rows : (n : ℕ) (w : List K) → Contains (words elements n) w → IsRow ring n w
+  pub words-rows : (n : ℕ) (w : List K) → Contains (words elements n) w → IsRow ring n w
   words-rows zero w c = elim (Contains-cases [] [] w c) [ inl e ↦ subst (IsRow ring 0) e (refl, All-nil ring.IsValue) | inr d ↦ absurd (Contains-none w d) ]
   words-rows (suc n) w c =
       let u = starting-Contains (words elements n) elements w c in
       subst (IsRow ring (suc n)) u.4 (row-cons field.is_ring n u.0 u.1 (elements-value u.0 u.2) (words-rows n u.1 u.3))
 
-  rows-words : (n : ℕ) (w : List K) → IsRow ring n w → Contains (words elements n) w
+  pub rows-words : (n : ℕ) (w : List K) → IsRow ring n w → Contains (words elements n) w
   rows-words zero [] r = Contains-here [] []
   rows-words zero (x ∷ w) r = absurd (omega (arith, r.0))
   rows-words (suc n) [] r = absurd (omega (arith, r.0))

@@ -1,6 +1,7 @@
 -- Rows in reduced echelon form, each with the column of its pivot.
-use Rattle.std.specs.Prelude.{◌≡◌, ◌≢◌, ℕ, ◌<◌, List, [], ◌∷◌, map, length, Contains}
+use Rattle.std.specs.Prelude.{◌≡◌, ◌≢◌, ℕ, ◌<◌, List, map, length, Contains}
 use Rattle.hp_algebra.specs.Ring.{RingOf}
+use Rattle.hp_algebra.proofs.Rising.{Ordered}
 use Rattle.hp_linear.specs.Rows.{IsRow, entry, row_plus, row_scale}
 use Rattle.hp_linear.specs.Spaces.{IsCombination}
 
@@ -8,11 +9,6 @@ use Rattle.hp_linear.specs.Spaces.{IsCombination}
 pub record PivotRow (R : Type 0) : Type 0 where
   pub column : ℕ
   pub entries : List R
-
--- each member is in a relation to every later one
-abbrev pub IsOrdered : {X : Type 0} → (X → X → Type 0) → List X → Type 0
-IsOrdered Before [] = Unit {0}
-IsOrdered Before (x ∷ xs) = ((y : _) → Contains xs y → Before x y) × IsOrdered Before xs
 
 module _ {R : Type 0} (ring : RingOf R) where
   abbrev pub rows_of : List (PivotRow R) → List (List R)
@@ -33,7 +29,7 @@ module _ {R : Type 0} (ring : RingOf R) where
   -- The rows are reduced: the pivots rise, and each is the one entry of its column that is not zero.
   pub record IsReduced (width : ℕ) (kept : List (PivotRow R)) : Type 0 where
     pub each : (p : PivotRow R) → Contains kept p → IsPivotRow width p
-    pub ordered : IsOrdered IsLeftOf kept
+    pub ordered : Ordered IsLeftOf kept
 
   -- row is old plus a combination of the kept rows, and zero in each column of a pivot
   pub record IsReductionOf (width : ℕ) (kept : List (PivotRow R)) (old row : List R) : Type 0 where

@@ -140,7 +140,7 @@ impl<F: Field> Matrix<F> {
 
     /// Some column c with M c = b. None exactly where there is none.
     ///
-    /// Errors: `NoMem` where memory is out.
+    /// Errors: `NoMem` where memory is out, also where the columns are too many to be counted.
     pub fn solve(&self, alloc: Global, b: &[F]) -> Result<Option<Vec<F>>, NoMem>
         requires { length b.now ≡ length self.now.rows }
         ensures some { IfOk result (λ answer. IfSome answer (λ c. IsSolution F.ring self.now b.now c.items)) }
@@ -177,7 +177,7 @@ impl<F: Field> Matrix<F> {
 
     /// The inverse of a square matrix, on both sides. None exactly where there is none.
     ///
-    /// Errors: `NoMem` where memory is out.
+    /// Errors: `NoMem` where memory is out, also where the columns are too many to be counted.
     pub fn inverse(&self, alloc: Global) -> Result<Option<Matrix<F>>, NoMem>
         requires { length self.now.rows ≡ self.now.cols }
         ensures some { IfOk result (λ answer. IfSome answer (IsInverse F.ring self.now)) }
@@ -193,7 +193,7 @@ impl<F: Field> Matrix<F> {
         Ok(Some(Matrix::new(cols, rows)))
     }
 
-    /// The square matrix with the columns of the identity.
+    /// The square matrix with the columns of the identity at its right.
     fn with_identity(&self, alloc: Global) -> Result<Matrix<F>, NoMem>
         requires { length self.now.rows ≡ self.now.cols }
         ensures matrix { IsMatrix F.ring self.now }
