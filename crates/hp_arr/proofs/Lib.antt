@@ -1,8 +1,25 @@
 pub mod Closing
+pub mod Counting
+pub mod Cuts
 pub mod FaultFacts
 pub mod Faultless
 pub mod Firsts
+pub mod FlatGrowth
+pub mod FlatList
 pub mod LeastPoint
+pub mod LinearForms
+pub mod Lists
+pub mod Matroid
 pub mod Multiples
+pub mod OverField
 pub mod Pigeonhole
+pub mod Points
+pub mod Powers
+pub mod Ranks
+pub mod Sums
 mod Worked
+pub mod LawfulDeletion
+pub mod NonzeroPlaces
+pub mod FirstCopies
+pub mod RowDifferences
+pub mod LawfulRestriction

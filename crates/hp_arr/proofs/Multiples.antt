@@ -13,13 +13,13 @@ use Rattle.hp_arr.specs.Arrangement.{scale, IsMultiple}
 use Rattle.hp_arr.specs.FormFaults.{elements, same_row, is_multiple}
 
 module _ {K : Type 0} {ring : RingOf K} (laws : IsRing ring) where
-  same_row-self : (a : List K) → All ring.IsValue a → same_row ring a a ≡ true
+  pub same_row-self : (a : List K) → All ring.IsValue a → same_row ring a a ≡ true
   same_row-self [] v = refl
   same_row-self (x ∷ a) v =
       let vx = All-head ring.IsValue x a v in
       and_from _ _ ((laws.zero_test _ (laws.add_value _ _ vx (laws.neg_value x vx))).1 (laws.add_neg x vx)) (same_row-self a (All-tail ring.IsValue x a v))
 
-  from_same_row : (a b : List K) → length a ≡ length b → All ring.IsValue a → All ring.IsValue b → same_row ring a b ≡ true → a ≡ b
+  pub from_same_row : (a b : List K) → length a ≡ length b → All ring.IsValue a → All ring.IsValue b → same_row ring a b ≡ true → a ≡ b
   from_same_row [] [] e v w t = refl
   from_same_row [] (y ∷ b) e v w t = absurd (omega (arith, e))
   from_same_row (x ∷ a) [] e v w t = absurd (omega (arith, e))

@@ -1,5 +1,5 @@
 -- Worked values of the definitions, which the checker computes: the three lines x, y and x - y in the plane over 5 elements.
-use Rattle.std.specs.Prelude.{◌≡◌, ℕ, true, false, List, [], ◌∷◌, Some, None, refl}
+use Rattle.std.specs.Prelude.{◌≡◌, ℕ, true, false, [], ◌∷◌, Some, None, refl}
 use Rattle.hp_algebra.specs.Ring.{RingOf, Numbering}
 use Rattle.hp_modp.specs.Residues.{residue_ring, residue_numbers}
 use Rattle.hp_arr.specs.Arrangement.{Arrangement}

@@ -1,10 +1,17 @@
 -- What the hyperplanes of an arrangement have in common: cuts, flats, ranks, dependent sets and circuits. Points are counted; no form is reduced.
-use Rattle.std.specs.Prelude.{◌≡◌, ℕ, ◌+◌, ◌*◌, ◌^◌, ◌==◌, nat_lt, Bool, not, ◌&&◌, List, length, filter}
+use Rattle.std.specs.Prelude.{◌≡◌, ℕ, ◌+◌, ◌*◌, ◌^◌, ◌==◌, nat_lt, Bool, not, ◌&&◌, List, length, filter, map, flat_map}
+use Rattle.std.specs.declared.cmp.Ordering.{Ordering}
+use Rattle.std.specs.Ordering.{nat_cmp, ordering_then}
 use Rattle.hp_algebra.specs.Ring.{RingOf, Numbering}
-use Rattle.hp_algebra.specs.Lists.{first_below, words_over, list_all, list_any}
-use Rattle.hp_sets.specs.Sets.{Set, IsSetWithin, sets_within, is_properly_within}
+use Rattle.hp_algebra.specs.Lists.{below, first_below, words_over, list_all, list_any}
+use Rattle.hp_sets.specs.Sets.{Set, IsSetWithin, cmp_listed, sets_within, is_within, is_properly_within}
+use Rattle.hp_sets.specs.declared.flat.Flat.{Flat}
 use Rattle.hp_arr.specs.Arrangement.{Arrangement, indices, lies_in}
 use Rattle.hp_arr.specs.FormFaults.{elements}
+
+-- the smaller rank first, and flats of one rank as sets are listed
+abbrev pub cmp_ranked : Flat → Flat → Ordering
+cmp_ranked f g = ordering_then (nat_cmp f.rank g.rank) (cmp_listed f.set g.set)
 
 module _ {K : Type 0} (ring : RingOf K) (numbers : Numbering K) where
   -- the points of a space, in lexicographic order
@@ -26,6 +33,22 @@ module _ {K : Type 0} (ring : RingOf K) (numbers : Numbering K) where
   -- the rank of a set: the r from 0 to the dimension with |cut| p^r = p^dim
   unfoldable pub rank : Arrangement K → Set → ℕ
   rank arr s = first_below (arr.dim + 1) (λ r. (length (cut arr s) * numbers.order ^ r) == numbers.order ^ arr.dim)
+
+  -- the rank of the arrangement: that of all its hyperplanes
+  unfoldable pub total_rank : Arrangement K → ℕ
+  total_rank arr = rank arr (indices arr)
+
+  -- whether a set is its own closure
+  unfoldable pub is_flat : Arrangement K → Set → Bool
+  is_flat arr s = is_within (flat arr s) s && is_within s (flat arr s)
+
+  -- the flats of one rank, as sets are listed
+  unfoldable pub flats_of_rank : Arrangement K → ℕ → List Set
+  flats_of_rank arr r = filter (λ s. is_flat arr s && (rank arr s == r)) (sets_within (length arr.forms))
+
+  -- every flat once with its rank, by rank and then as sets are listed
+  unfoldable pub flats : Arrangement K → List Flat
+  flats arr = flat_map (λ r. map (λ s. record { rank = r; set = s }) (flats_of_rank arr r)) (below (arr.dim + 1))
 
   -- a set is dependent where its rank is below its size
   unfoldable pub is_dependent : Arrangement K → Set → Bool

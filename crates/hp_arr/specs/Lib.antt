@@ -1,4 +1,5 @@
 pub mod Arrangement
 pub mod Flats
 pub mod FormFaults
+pub mod Operations
 pub mod PointSearch

@@ -1,13 +1,15 @@
 //! An arrangement of hyperplanes: a dimension and a list of linear forms.
 
-ghost use Rattle.std.specs.Prelude.{◌≡◌, ◌↔◌, ◌⊎◌, ◌-◌, ◌≤◌, ◌<◌, ◌^◌, [], IfOk, IfErr, OnOk, IsTrue, None, Some, All, length, map};
+ghost use Rattle.std.specs.Prelude.{◌≡◌, ◌↔◌, ◌⊎◌, ◌+◌, ◌-◌, ◌≤◌, ◌<◌, ◌^◌, [], IfOk, IfErr, OnOk, IsTrue, None, Some, All, length, map};
 ghost use Rattle.hp_arr.specs.Arrangement.{IsArrangement, IsRow, form, value, IsLeastPointOff};
 ghost use Rattle.hp_arr.specs.FormFaults.{form_fault};
+ghost use Rattle.hp_arr.specs.Operations.{deletion, restriction, cone};
 
 use crate::fault::{ArrFault, MAX_DIM};
 use crate::fault_search::find_fault;
 use crate::point_search::next_coordinate;
-use crate::rows::{dot, lists_of};
+use crate::restriction::restricted_forms;
+use crate::rows::{cone_forms, copies, dot, lists_of};
 use hp_algebra::{FiniteField, List, NoMem};
 use std::alloc::Global;
 use std::marker::Model;
@@ -59,7 +61,7 @@ impl<K: FiniteField> Arr<K> {
         requires low { 1 ≤ l }
         requires high { l ≤ MAX_DIM }
         requires widths { All (λ form. length form ≡ l) forms.items }
-        requires count { length forms.items < 2 ^ 32 - 1 }
+        requires count { length forms.items < 2 ^ 32 }
         ensures ok { IfOk result (λ a. a ≡ record { dim = l; forms = forms.items }) }
         ensures lawful { IfOk result (IsArrangement K.ring K.numbers) }
         ensures faultless { OnOk result (form_fault K.ring K.numbers forms.items ≡ None) }
@@ -114,6 +116,61 @@ impl<K: FiniteField> Arr<K> {
         ensures answer { K.ring.IsValue result }
     {
         dot(self.form(i), point)
+    }
+
+    /// The arrangement without form `i`, with `i` from 1.
+    ///
+    /// Errors: `NoMem` where memory is out.
+    pub fn delete(&self, alloc: Global, i: u32) -> Result<Arr<K>, NoMem>
+        requires low { 1 ≤ i }
+        requires high { i ≤ length self.now.forms }
+        ensures value { IfOk result (λ a. a ≡ deletion self.now i) }
+        ensures lawful { IfOk result (IsArrangement K.ring K.numbers) }
+    {
+        let mut forms = copies(alloc, &self.forms)?;
+        forms.remove(i as usize - 1);
+        Ok(Arr {
+            dim: self.dim,
+            forms,
+        })
+    }
+
+    /// The restriction to hyperplane `i`, with `i` from 1: the other hyperplanes cut with it. Form `i` is solved for its
+    /// last variable with a nonzero coefficient, and this is put into the other forms; each form is scaled so that its
+    /// first nonzero coefficient is 1, and of equal forms the first is kept.
+    ///
+    /// Errors: `NoMem` where memory is out.
+    pub fn restrict(&self, alloc: Global, i: u32) -> Result<Arr<K>, NoMem>
+        requires low { 1 ≤ i }
+        requires high { i ≤ length self.now.forms }
+        requires dim { 2 ≤ self.now.dim }
+        ensures value { IfOk result (λ a. a ≡ restriction K.ring K.inverse self.now i) }
+        ensures lawful { IfOk result (IsArrangement K.ring K.numbers) }
+    {
+        let dim = self.dim() - 1;
+        let others = self.delete(alloc, i)?;
+        let forms = restricted_forms(alloc, self.form(i), &others.forms)?;
+        Ok(Arr { dim, forms })
+    }
+
+    /// The cone over the affine hyperplanes of these rows, which each have `l` coefficients and the constant: the
+    /// arrangement in `l + 1` variables of the rows and of the last coordinate.
+    ///
+    /// Errors: those of `new` for these forms.
+    pub fn cone(alloc: Global, l: u32, rows: Vec<Vec<K>>) -> Result<Arr<K>, ArrFault>
+        requires high { l < MAX_DIM }
+        requires widths { All (λ row. length row.items ≡ l + 1) rows.items }
+        requires count { length rows.items < 2 ^ 32 - 1 }
+        ensures ok { IfOk result (λ a. a ≡ cone K.ring l (map (λ row. row.items) rows.items)) }
+        ensures lawful { IfOk result (IsArrangement K.ring K.numbers) }
+
+        // The forms have no fault at Ok, and any error but Memory is their fault.
+        ensures faultless { let forms = (cone K.ring l (map (λ row. row.items) rows.items)).forms in
+            OnOk result (form_fault K.ring K.numbers forms ≡ None) }
+        ensures fault { let forms = (cone K.ring l (map (λ row. row.items) rows.items)).forms in
+            IfErr result (λ e. (e ≡ ArrFault.Memory) ⊎ (form_fault K.ring K.numbers forms ≡ Some e)) }
+    {
+        Arr::of_lists(l + 1, cone_forms(alloc, l, rows)?)
     }
 
     /// The lexicographically least point that lies in no hyperplane, where values go by their places.

@@ -10,7 +10,7 @@ use hp_algebra::{Field, FiniteField, List};
 /// The fault of the forms. Where there is none, the coefficients are values.
 pub fn find_fault<K: FiniteField>(forms: &[List<K>]) -> Option<ArrFault>
     requires widths { AllPairs (λ a b. length a ≡ length b) forms.now }
-    requires count { length forms.now < 2 ^ 32 - 1 }
+    requires count { length forms.now < 2 ^ 32 }
     ensures fault { result ≡ form_fault K.ring K.numbers forms.now }
     ensures values { IfNone result (All (All K.ring.IsValue) forms.now) }
 {
@@ -29,13 +29,13 @@ pub fn find_fault<K: FiniteField>(forms: &[List<K>]) -> Option<ArrFault>
 
 /// The first form that is zero.
 fn find_zero<K: Field>(forms: &[List<K>]) -> Option<ArrFault>
-    requires { length forms.now < 2 ^ 32 - 1 }
+    requires { length forms.now < 2 ^ 32 }
     ensures fault { result ≡ zero_fault K.ring forms.now }
     ensures values { IfNone result (All (All K.ring.IsValue) forms.now) }
 {
-    for i in 1..forms.len() as u32 + 1 {
-        if is_zero(forms[i as usize - 1].as_slice()) {
-            return Some(ArrFault::ZeroForm(i));
+    for k in 0..forms.len() as u32 {
+        if is_zero(forms[k as usize].as_slice()) {
+            return Some(ArrFault::ZeroForm(k + 1));
         }
     }
     None
@@ -44,12 +44,13 @@ fn find_zero<K: Field>(forms: &[List<K>]) -> Option<ArrFault>
 /// The first form that is a multiple of an earlier one, with the first such.
 fn find_repeated<K: FiniteField>(forms: &[List<K>]) -> Option<ArrFault>
     requires widths { AllPairs (λ a b. length a ≡ length b) forms.now }
-    requires count { length forms.now < 2 ^ 32 - 1 }
+    requires count { length forms.now < 2 ^ 32 }
     requires values { All (All K.ring.IsValue) forms.now }
     requires nonzero { zero_fault K.ring forms.now ≡ None }
     ensures { result ≡ repeated_fault K.ring K.numbers forms.now }
 {
-    for j in 1..forms.len() as u32 + 1 {
+    for k in 0..forms.len() as u32 {
+        let j = k + 1;
         if let Some(i) = find_earlier_multiple(forms, j) {
             return Some(ArrFault::Repeated(i, j));
         }

@@ -1,10 +1,12 @@
-//! Arrangements of hyperplanes over a finite field, the faults of a list of forms, and the least point off them.
+//! Arrangements of hyperplanes over a finite field, the faults of a list of forms, the least point off them, and
+//! deletion, restriction and cone.
 #![tactic(auto)]
 
 mod arrangement;
 mod fault;
 mod fault_search;
 mod point_search;
+mod restriction;
 mod rows;
 #[cfg(test)]
 mod tests;

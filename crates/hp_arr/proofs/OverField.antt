@@ -1,0 +1,8 @@
+-- What the laws of cuts, flats and ranks assume: an arrangement over a field whose elements are numbered.
+use Rattle.hp_algebra.specs.Ring.{RingOf, Numbering, IsField, IsNumbering}
+use Rattle.hp_arr.specs.Arrangement.{Arrangement, IsArrangement}
+
+pub record IsOverField {K : Type 0} (ring : RingOf K) (inverse : K → K) (numbers : Numbering K) (arr : Arrangement K) : Type 0 where
+  pub field : IsField ring inverse
+  pub numbering : IsNumbering ring numbers
+  pub arrangement : IsArrangement ring numbers arr

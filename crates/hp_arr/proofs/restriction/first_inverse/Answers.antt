@@ -1,0 +1,17 @@
+use Rattle.std.proofs.Common.{◌≡◌, ap, ◌∙◌, arith}
+use Rattle.std.proofs.lemmas.Bool.{true≢false}
+use Rattle.hp_arr.specs.Operations.{entry, first_place}
+use Rattle.hp_arr.proofs.NonzeroPlaces.{first-found, not_all_zero}
+use Rattle.hp_arr.proofs.restriction.first_inverse.Goals as goal
+
+pub returns-in-Some : goal.returns-in-Some
+returns-in-Some g c =
+    let row = c.args.row.now in
+    let x = c.index-row-k.result in
+    let first : x ≡ entry g.K.Ring.ring row (first_place g.K.Ring.ring row) =
+    first-found g.met.K.Ring.ring_laws row c.requires.values c.loop-k.k x c.loop-k-test.true c.index-row-k.is (λ e. true≢false (c.in-Some.ensures.none.1 e)) c.loop-k.invariant in
+    c.in-Some.ensures.some ∙ ap g.K.Field.inverse first
+
+pub unreachable-requires : goal.unreachable-requires
+unreachable-requires g c =
+    not_all_zero g.met.K.Ring.ring_laws c.args.row.now c.requires.values c.requires.nonzero (λ j h. c.loop-k.invariant j (omega (arith, h, c.loop-k-test.false)))

@@ -1,0 +1,12 @@
+use Rattle.std.proofs.Common.{◌≡◌, ◌<◌, length, sym, ◌∙◌, arith}
+use Rattle.std.proofs.lemmas.List.{same_lists, get_or-map, length-map}
+use Rattle.hp_arr.proofs.restriction.scaled.Goals as goal
+
+pub returns : goal.returns
+returns g c =
+    let old = c.args.row.items in
+    let times = g.K.Ring.ring.mul c.args.c in
+    let long : length c.loop-k.row.items ≡ length old = c.loop-k.invariant.long in
+    same_lists _ _ (long ∙ sym (length-map old times)) (λ k d h.
+    let in_old : k < length old = omega (arith, long, h) in
+    c.loop-k.invariant.done k d (omega (arith, h, c.loop-k-test.false)) ∙ sym (get_or-map times old k d d in_old))
