@@ -1,8 +1,12 @@
 -- The bytes of an answer and of a refusal's line.
 use Rattle.std.specs.Prelude.{ℕ, List, [], ◌∷◌, ◌++◌, map, flat_map, length, codes, decimal}
 use Rattle.hp_algebra.specs.Ring.{Numbering}
+use Rattle.hp_sets.specs.Sets.{Set}
+use Rattle.hp_sets.specs.declared.flat.Flat.{Flat}
 use Rattle.hp_render.specs.declared.answer.Answer.{Answer}
-use Rattle.hp_render.specs.declared.answer.Answer.TheVariants.{Hyperplanes, Point}
+use Rattle.hp_render.specs.declared.answer.Answer.TheVariants.{Hyperplanes, Point, Rank, Flats, Limit}
+use Rattle.hp_render.specs.declared.answer.LimitKind.{LimitKind}
+use Rattle.hp_render.specs.declared.answer.LimitKind.TheVariants as limit
 use Rattle.hp_render.specs.declared.answer.AskWord.{AskWord}
 use Rattle.hp_render.specs.declared.answer.AskWord.TheVariants as asked
 use Rattle.hp_render.specs.declared.refusal.Refusal.{Refusal}
@@ -39,6 +43,30 @@ word_text asked.Free = codes "free"
 abbrev pub head : AskWord → List ℕ → List ℕ
 head word name = word_text word ++ codes " " ++ name ++ codes ":"
 
+-- a set: its members between braces
+abbrev pub set_text : Set → List ℕ
+set_text s = codes "{" ++ spaced (map decimal s) ++ codes "}"
+
+-- the line of a flat: its rank and its members
+abbrev pub flat_line : Flat → List ℕ
+flat_line f = decimal f.rank ++ codes ": " ++ set_text f.set ++ 10 ∷ []
+
+-- the rank behind the head
+abbrev pub rank_text : List ℕ → ℕ → List ℕ
+rank_text name r = head asked.Rank name ++ codes " " ++ decimal r ++ 10 ∷ []
+
+-- how many flats, and a line for each
+abbrev pub flats_text : List ℕ → List Flat → List ℕ
+flats_text name fs = head asked.Flats name ++ codes " " ++ decimal (length fs) ++ 10 ∷ [] ++ flat_map flat_line fs
+
+-- the word of a limit
+abbrev pub limit_word : LimitKind → List ℕ
+limit_word limit.Flats = codes "flats"
+
+-- the limit behind the head of what was asked
+abbrev pub limit_text : List ℕ → AskWord → LimitKind → List ℕ
+limit_text name word kind = head word name ++ codes " limit " ++ limit_word kind ++ 10 ∷ []
+
 module _ {K : Type 0} (numbers : Numbering K) where
   -- a field element is printed as its residue
   abbrev pub element_text : K → List ℕ
@@ -60,6 +88,9 @@ module _ {K : Type 0} (numbers : Numbering K) where
   abbrev pub answer_text : List ℕ → Answer K → List ℕ
   answer_text name (Hyperplanes dim forms) = hyperplanes_text name dim forms
   answer_text name (Point x) = point_text name x
+  answer_text name (Rank r) = rank_text name r
+  answer_text name (Flats fs) = flats_text name fs
+  answer_text name (Limit word kind) = limit_text name word kind
 
 abbrev pub refusal_words : Refusal → List ℕ
 refusal_words (Syntax c) = codes "syntax " ++ decimal c

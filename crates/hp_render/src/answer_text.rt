@@ -1,9 +1,11 @@
 //! The text of an answer.
 
 ghost use Rattle.std.specs.Prelude.{◌≡◌, ◌++◌, flat_map, IfOk, OnOk, OnErr};
-ghost use Rattle.hp_render.specs.Text.{answer_text, elements_line, hyperplanes_text, point_text};
+ghost use Rattle.hp_render.specs.Text.{answer_text, elements_line, hyperplanes_text, point_text, rank_text};
 
 use crate::answer::Answer;
+use crate::flat_text::flats_text;
+use crate::limit_text::limit_text;
 use crate::numbers::{push_behind_spaces, push_spaced};
 use hp_algebra::{FiniteField, List, NoMem};
 use hp_script::Name;
@@ -31,6 +33,9 @@ fn text_of<K: FiniteField>(alloc: Global, answer: &Answer<K>, name: &Name) -> Re
     match answer {
         Answer::Hyperplanes { dim, forms } => hyperplanes_text(alloc, name, *dim, forms.as_slice()),
         Answer::Point(point) => point_text(alloc, name, point.as_slice()),
+        Answer::Rank(rank) => rank_text(alloc, name, *rank),
+        Answer::Flats(flats) => flats_text(alloc, name, flats.as_slice()),
+        Answer::Limit { asked, kind } => limit_text(alloc, name, *asked, *kind),
     }
 }
 
@@ -74,6 +79,19 @@ fn point_text<K: FiniteField>(alloc: Global, name: &Name, point: &[K]) -> Result
     text.extend_from_slice(name.bytes())?;
     text.extend_from_slice(b":")?;
     push_behind_spaces(point, &mut text)?;
+    text.extend_from_slice(b"\n")?;
+    Ok(text)
+}
+
+/// The line of a rank.
+fn rank_text(alloc: Global, name: &Name, rank: u32) -> Result<Vec<u8>, NoMem>
+    ensures { IfOk result (λ text. text.items ≡ rank_text name.now rank) }
+{
+    let mut buffer = Buffer::new();
+    let mut text = Vec::from_slice(alloc, b"rank ")?;
+    text.extend_from_slice(name.bytes())?;
+    text.extend_from_slice(b": ")?;
+    text.extend_from_slice(buffer.format(rank).as_bytes())?;
     text.extend_from_slice(b"\n")?;
     Ok(text)
 }

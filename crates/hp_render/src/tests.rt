@@ -1,9 +1,10 @@
 //! Each kind of text, worked by hand.
 
-use crate::{Answer, Refusal, render, render_refusal};
+use crate::{Answer, AskWord, LimitKind, Refusal, render, render_refusal};
 use hp_algebra::List;
 use hp_modp::{Gf, P31};
 use hp_script::Name;
+use hp_sets::{Flat, HSet};
 use std::alloc::Global;
 use std::test::Fail;
 
@@ -43,6 +44,80 @@ fn answers(rt: HostRuntime) -> Result<(), Fail> {
         text.as_slice(),
         b"!hyperplanes A_1: 2 in 2\n1 0\n1 30\npoint A_1: 0 30\nhyperplanes A_1: 0 in 3\n".as_slice()
     );
+    Ok(())
+}
+
+/// A rank, flats and limits, each behind its word and the name.
+#[test]
+fn ranks_flats_and_limits(rt: HostRuntime) -> Result<(), Fail> {
+    let alloc = rt.alloc();
+    let mut text = Vec::new(alloc);
+    let flats = vec![in alloc;
+        Flat {
+            rank: 0,
+            set: HSet::empty()
+        },
+        Flat {
+            rank: 1,
+            set: HSet::single(64)
+        },
+        Flat {
+            rank: 2,
+            set: HSet::single(12).with(3).with(5)
+        },
+    ]?;
+    let empty = Vec::new(alloc);
+    render(&Answer::<K>::Rank(3), &name(alloc)?, &mut text)?;
+    render(
+        &Answer::<K>::Flats(List::of(flats)),
+        &name(alloc)?,
+        &mut text,
+    )?;
+    render(
+        &Answer::<K>::Flats(List::of(empty)),
+        &name(alloc)?,
+        &mut text,
+    )?;
+    let lines = b"rank A_1: 3
+flats A_1: 3
+0: {}
+1: {64}
+2: {3 5 12}
+flats A_1: 0
+";
+    assert_eq!(rt; text.as_slice(), lines.as_slice());
+    for (asked, line) in [
+        (
+            AskWord::Hyperplanes,
+            b"hyperplanes A_1: limit flats\n".as_slice(),
+        ),
+        (AskWord::Point, b"point A_1: limit flats\n"),
+        (AskWord::Rank, b"rank A_1: limit flats\n"),
+        (AskWord::Flats, b"flats A_1: limit flats\n"),
+        (AskWord::Poincare, b"poincare A_1: limit flats\n"),
+        (
+            AskWord::Characteristic,
+            b"characteristic A_1: limit flats\n",
+        ),
+        (AskWord::Triple, b"triple A_1: limit flats\n"),
+        (AskWord::Circuits, b"circuits A_1: limit flats\n"),
+        (AskWord::Nbc, b"nbc A_1: limit flats\n"),
+        (AskWord::Normal, b"normal A_1: limit flats\n"),
+        (AskWord::Aomoto, b"aomoto A_1: limit flats\n"),
+        (AskWord::Gb, b"gb A_1: limit flats\n"),
+        (AskWord::Der, b"der A_1: limit flats\n"),
+        (AskWord::Resolve, b"resolve A_1: limit flats\n"),
+        (AskWord::Free, b"free A_1: limit flats\n"),
+    ] {
+        let kind = LimitKind::Flats;
+        let mut text = Vec::new(alloc);
+        render(
+            &Answer::<K>::Limit { asked, kind },
+            &name(alloc)?,
+            &mut text,
+        )?;
+        assert_eq!(rt; text.as_slice(), line, "{asked:?}");
+    }
     Ok(())
 }
 
