@@ -1,0 +1,19 @@
+//! The session of a script: the field, the limits, the named arrangements, and what each command does.
+#![tactic(auto)]
+
+mod answering;
+mod building;
+mod limits;
+mod names;
+mod prelude;
+mod questions;
+mod session;
+mod stop;
+#[cfg(test)]
+mod tests;
+mod which;
+
+pub use limits::Limits;
+pub use prelude::{Before, Prelude};
+pub use session::{Session, Step};
+pub use which::Which;

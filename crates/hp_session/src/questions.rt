@@ -1,0 +1,16 @@
+//! The questions that are answered so far.
+
+ghost use Rattle.std.specs.Prelude.{◌≡◌};
+ghost use Rattle.hp_session.specs.Refusals.{is_built};
+
+use hp_script::Question;
+
+/// Whether the question is answered.
+pub fn is_built(question: &Question) -> bool
+    ensures { result ≡ is_built question.now }
+{
+    matches!(
+        question,
+        Question::Hyperplanes | Question::Point | Question::Rank | Question::Flats
+    )
+}
