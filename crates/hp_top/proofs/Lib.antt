@@ -1,4 +1,5 @@
+pub mod Choosing
 pub mod Courses
-pub mod Forms
+pub mod Lines
 pub mod OneCourse
 pub mod RightCall

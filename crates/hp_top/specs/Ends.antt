@@ -1,15 +1,15 @@
 -- How a part of a run ends: what it gives to the sink by its status.
 use Rattle.std.specs.Prelude.{◌≡◌, ◌⊎◌, ℕ, List, [], Option, Some, None, Ok, Err}
 use Rattle.std.specs.declared.result.Result.{Result}
-use Rattle.hp_modp.specs.Residues.{residue_ring, residue_numbers}
+use Rattle.hp_modp.specs.Residues.{residue_ring, inverse_mod, residue_numbers}
 use Rattle.hp_render.specs.Text.{answer_text}
 use Rattle.hp_render.specs.declared.answer.Answer.{Answer}
 use Rattle.hp_script.specs.declared.command.Command.{Command}
 use Rattle.hp_script.specs.declared.command.Command.TheVariants.{Ask}
 use Rattle.hp_io.specs.Bytes.{Gave}
-use Rattle.hp_top.specs.Course.{Course, HasCourse, refused_at}
-use Rattle.hp_top.specs.Session.{State, refusal, after}
-use Rattle.hp_top.specs.Steps.{IsSilent, Answers}
+use Rattle.hp_top.specs.Course.{Course, HasCourse, refused_at, refusal_over, after_over}
+use Rattle.hp_session.specs.State.{State}
+use Rattle.hp_session.specs.Steps.{IsSilent, Answers}
 use Rattle.hp_script.specs.declared.command.Line.{Line}
 use Rattle.hp_top.specs.Text.{IsTextOf, IsPartOf, IsPrefix}
 use Rattle.hp_render.specs.declared.refusal.Refusal.{Refusal}
@@ -47,20 +47,25 @@ WritesText text (Err WriteFault) before now = GaveFront text before now
 WritesText text (Err OutOfMemory) before now = GaveFront text before now
 WritesText text (Err other) before now = ⊥
 
--- the same of the text of an answer to a question
-abbrev pub WritesAnswer : Command → Answer ℕ → Result (Unit {0}) Status → Option (List ℕ) → Option (List ℕ) → Type 0
-WritesAnswer (Ask name q) a result before now = WritesText (answer_text (residue_numbers 31) name a) result before now
-WritesAnswer other a result before now = ⊥
+module _ (p : ℕ) where
+  -- the same of the text of an answer to a question, over the residues modulo p
+  abbrev pub WritesAnswer : Command → Answer ℕ → Result (Unit {0}) Status → Option (List ℕ) → Option (List ℕ) → Type 0
+  WritesAnswer (Ask name q) a result before now = WritesText (answer_text (residue_numbers p) name a) result before now
+  WritesAnswer other a result before now = ⊥
 
--- A line goes on: a silent command changes the state and gives nothing, or an answered question keeps the state and its text is given.
-abbrev pub GoesOn : State ℕ → Line → State ℕ → Option (List ℕ) → Option (List ℕ) → Type 0
-GoesOn state l next before now =
-    ((refusal (residue_ring 31) (residue_numbers 31) state l.command ≡ None) × IsSilent l.command × (next ≡ after (residue_ring 31) state l.command) × Gave before now [])
-    ⊎ ((a : Answer ℕ) × (refusal (residue_ring 31) (residue_numbers 31) state l.command ≡ None) × Answers (residue_ring 31) (residue_numbers 31) state l.command a × (next ≡ state) × WritesAnswer l.command a (Ok tt) before now)
+  -- a right answer of a question in a state
+  abbrev pub AnswersOver : State ℕ → Command → Answer ℕ → Type 0
+  AnswersOver state c a = Answers (residue_ring p) (inverse_mod p) (residue_numbers p) state c a
 
--- A line ends the run: it is refused, memory is out, or the text of its answer was cut off.
-abbrev pub EndsAt : State ℕ → Line → Status → Option (List ℕ) → Option (List ℕ) → Type 0
-EndsAt state l status before now =
-    ((r : Refusal) × (refusal (residue_ring 31) (residue_numbers 31) state l.command ≡ Some r) × EndsBy status (refused_at l.number r) before now)
-    ⊎ (((status ≡ OutOfMemory) × Gave before now [])
-    ⊎ ((a : Answer ℕ) × (refusal (residue_ring 31) (residue_numbers 31) state l.command ≡ None) × Answers (residue_ring 31) (residue_numbers 31) state l.command a × WritesAnswer l.command a (Err status) before now))
+  -- A line goes on: a silent command changes the state and gives nothing, or an answered question keeps the state and its text is given.
+  abbrev pub GoesOn : State ℕ → Line → State ℕ → Option (List ℕ) → Option (List ℕ) → Type 0
+  GoesOn state l next before now =
+      ((refusal_over p state l.command ≡ None) × IsSilent l.command × (next ≡ after_over p state l.command) × Gave before now [])
+      ⊎ ((a : Answer ℕ) × (refusal_over p state l.command ≡ None) × AnswersOver state l.command a × (next ≡ state) × WritesAnswer l.command a (Ok tt) before now)
+
+  -- A line ends the run: it is refused, memory is out, or the text of its answer was cut off.
+  abbrev pub EndsAt : State ℕ → Line → Status → Option (List ℕ) → Option (List ℕ) → Type 0
+  EndsAt state l status before now =
+      ((r : Refusal) × (refusal_over p state l.command ≡ Some r) × EndsBy status (refused_at l.number r) before now)
+      ⊎ (((status ≡ OutOfMemory) × Gave before now [])
+      ⊎ ((a : Answer ℕ) × (refusal_over p state l.command ≡ None) × AnswersOver state l.command a × WritesAnswer l.command a (Err status) before now))

@@ -5,8 +5,8 @@ use Rattle.hp_modp.specs.Residues.{residue_ring, residue_numbers}
 use Rattle.hp_render.specs.Text.{answer_text, refusal_text}
 use Rattle.hp_render.specs.declared.answer.Answer.{Answer}
 use Rattle.hp_render.specs.declared.refusal.Refusal.{Refusal}
+use Rattle.hp_session.specs.Answers.{IsRightAnswer}
 use Rattle.hp_top.specs.Course.{Asked, Course, HasCourse}
-use Rattle.hp_top.specs.Session.{IsRightAnswer}
 
 abbrev pub refused_line : Option (ℕ × Refusal) → List ℕ
 refused_line None = []
@@ -14,10 +14,10 @@ refused_line (Some r) = refusal_text r.0 r.1
 
 -- the answer is right, and this is its text
 abbrev pub IsRightFor : Asked → Answer ℕ → Type 0
-IsRightFor q a = IsRightAnswer (residue_ring 31) (residue_numbers 31) q.arr q.question a
+IsRightFor q a = IsRightAnswer (residue_ring q.p) (residue_numbers q.p) q.limits q.arr q.question a
 
 abbrev pub text_of : Asked → Answer ℕ → List ℕ
-text_of q a = answer_text (residue_numbers 31) q.name a
+text_of q a = answer_text (residue_numbers q.p) q.name a
 
 -- one right answer for each question, in order
 abbrev pub AreRight : List Asked → List (Answer ℕ) → Type 0

@@ -5,14 +5,12 @@ ghost use Rattle.std.specs.Prelude.{◌≡◌, map, string_bytes};
 ghost use Rattle.hp_top.specs.Run.{IsRightCall};
 ghost use Rattle.hp_top.specs.declared.status.Status.TheVariants.{WordsRefused};
 
-mod answering;
 mod answers;
-mod building;
-mod session;
+mod fields;
 mod status;
-mod stop;
 #[cfg(test)]
 mod tests;
+mod writing;
 
 use answers::answer_script;
 use hp_io::{ReadEnd, Sink, Source, read_all};

@@ -1,5 +1,5 @@
 use Rattle.hp_top.proofs.Courses.{given_front}
-use Rattle.hp_top.proofs.answers.write_text.Goals as goal
+use Rattle.hp_top.proofs.writing.write_text.Goals as goal
 
 pub returns-in-Err-Fault-clause-writes : goal.returns-in-Err-Fault-clause-writes
 returns-in-Err-Fault-clause-writes g c =
