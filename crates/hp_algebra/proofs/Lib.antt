@@ -1,5 +1,9 @@
 pub mod Dots
-pub mod FirstBelow
-pub mod Members
+pub mod Elements
+pub mod Finite
+pub mod Multiples
+pub mod PlaneSums
 pub mod Rings
-pub mod Rising
+pub mod RowDifferences
+pub mod Rows
+pub mod UnitRows

@@ -1,2 +1,4 @@
-pub mod Lists
+pub mod Integers
+pub mod Modules
 pub mod Ring
+pub mod Rows

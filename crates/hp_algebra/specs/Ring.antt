@@ -1,5 +1,6 @@
 -- Rings and fields over plain data. A record has the operations, and a predicate says which data are values; the laws speak of values alone.
-use Rattle.std.specs.Prelude.{◌≡◌, ◌≢◌, ◌⊎◌, ◌↔◌, ℕ, zero, suc, ◌+◌, ◌≤◌, ◌<◌, max, Bool, IsTrue, ℤ, pos, negsuc, List, [], ◌∷◌}
+use Rattle.std.specs.Prelude.{◌≡◌, ◌≢◌, ◌⊎◌, ◌↔◌, ℕ, zero, suc, ◌+◌, ◌≤◌, ◌<◌, max, Bool, IsTrue, ℤ, pos, negsuc, List, [], ◌∷◌, map}
+use Rattle.hp_lists.specs.Lists.{below}
 
 -- The operations of a ring, the test for zero, and the weight, which a product adds up.
 pub record RingOf (R : Type 0) : Type 1 where
@@ -82,11 +83,20 @@ pub record IsNumbering {K : Type 0} (ring : RingOf K) (numbers : Numbering K) : 
   pub nth_of_place : (x : K) → ring.IsValue x → numbers.nth (numbers.place x) ≡ x
   pub nth_multiple : (k : ℕ) → k < numbers.order → numbers.nth k ≡ multiple_of_one ring k
 
+-- the elements of a finite field in the order of their numbers
+unfoldable pub elements : {K : Type 0} → Numbering K → List K
+elements numbers = map numbers.nth (below numbers.order)
+
 -- the sum of the products at equal places
 abbrev pub dot_of : {R : Type 0} → RingOf R → List R → List R → R
 dot_of ring [] ys = ring.zero
 dot_of ring (x ∷ xs) [] = ring.zero
 dot_of ring (x ∷ xs) (y ∷ ys) = ring.add (ring.mul x y) (dot_of ring xs ys)
+
+-- x multiplied n times
+abbrev pub power : {R : Type 0} → RingOf R → R → ℕ → R
+power ring x zero = ring.one
+power ring x (suc n) = ring.mul x (power ring x n)
 
 -- the greatest of the weights of a list of values, and 0 where there is none
 abbrev pub greatest_weight_of : {R : Type 0} → RingOf R → List R → ℕ

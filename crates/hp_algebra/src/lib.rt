@@ -5,17 +5,18 @@
 #![tactic(auto)]
 
 mod field;
-mod list;
 mod memory;
+mod module;
 mod ring;
+mod row;
 mod sums;
-#[cfg(test)]
-mod tests;
 mod values;
 
 pub use field::{Field, FiniteField};
-pub use list::List;
+pub use hp_lists::List;
 pub use memory::NoMem;
+pub use module::{Module, combine};
 pub use ring::{CommRing, Domain, Ring};
-pub use sums::dot;
+pub use row::{scaled, unit_row};
+pub use sums::{dot, form_value};
 pub use values::{greatest_weight, product_is_zero};

@@ -3,6 +3,7 @@
 ghost use Rattle.std.specs.Prelude.{◌≡◌, ℕ, ◌+◌, ◌≤◌, IfOk, OnOk, All, length, slice_get, Some};
 ghost use Rattle.hp_algebra.specs.Ring.{dot_of};
 
+use crate::field::Field;
 use crate::memory::NoMem;
 use crate::ring::Ring;
 use std::alloc::Global;
@@ -23,4 +24,19 @@ pub fn dot<R: Ring>(alloc: Global, a: &[R], b: &[R]) -> Result<R, NoMem>
         sum = a[k].mul(alloc, &b[k])?.add(alloc, &sum)?;
     }
     Ok(sum)
+}
+
+/// The value of a form at a point, which may have fewer coordinates than the form has coefficients: those left over
+/// count for nothing.
+pub fn form_value<F: Field>(form: &[F], point: &[F]) -> F
+    requires { length point.now ≤ length form.now }
+    ensures point { All F.ring.IsValue point.now }
+    ensures value { result ≡ dot_of F.ring form.now point.now }
+    ensures answer { F.ring.IsValue result }
+{
+    let mut value = F::nil();
+    for k in (0..point.len()).rev() {
+        value = form[k].times(point[k]).plus(value);
+    }
+    value
 }

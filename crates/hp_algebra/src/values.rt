@@ -1,6 +1,6 @@
 //! What the laws give in every ring and every domain.
 
-ghost use Rattle.std.specs.Prelude.{◌≡◌, ◌↔◌, IsTrue, All};
+ghost use Rattle.std.specs.Prelude.{◌≡◌, ◌⊎◌, ◌↔◌, IsTrue, All};
 ghost use Rattle.hp_algebra.specs.Ring.{greatest_weight_of};
 
 use crate::ring::{Domain, Ring};
@@ -19,7 +19,8 @@ pub fn greatest_weight<R: Ring>(values: &[R]) -> u32
 
 /// Whether the product of the two values is zero. It is so exactly where a factor is, and no product is computed.
 pub fn product_is_zero<D: Domain>(left: &D, right: &D) -> bool
-    ensures { IsTrue result ↔ (D.ring.mul left.now right.now ≡ D.ring.zero) }
+    ensures factor { IsTrue result ↔ ((left.now ≡ D.ring.zero) ⊎ (right.now ≡ D.ring.zero)) }
+    ensures product { IsTrue result ↔ (D.ring.mul left.now right.now ≡ D.ring.zero) }
 {
     let left_is_zero = left.is_zero();
     let right_is_zero = right.is_zero();

@@ -15,7 +15,8 @@ pub cause_none : (a : ℕ) (fault : Type 0) → a ≤ 2 ^ 64 - 1 → ¬ fault �
 cause_none a fault fits never = record { never_falls = omega arith; fits = fits; cause = λ here. absurd (never here) }
 
 -- a fault of two calls is one of the first or of the second
-pub cause_more : (a b c : ℕ) (first second both : Type 0) → HasCause a b first → HasCause b c second → (both → first ⊎ second) → HasCause a c both
+pub cause_more : (a b c : ℕ) (first second both : Type 0) → HasCause a b first → HasCause b c second
+    → (both → first ⊎ second) → HasCause a c both
 cause_more a b c first second both p q which =
     record {
       never_falls = omega (arith, p.never_falls, q.never_falls);

@@ -35,7 +35,8 @@ gave_part a b xs ys p =
     (p.0, omega (arith, p.1, length-append xs ys), rw (take-append-le p.0 xs ys shorter) p.2)
 
 -- all of some bytes, and then a part of more
-pub gave_more_part : (a b c : Option (List ℕ)) (xs ys : List ℕ) → Gave a b xs → GavePart b c ys → GavePart a c (xs ++ ys)
+pub gave_more_part : (a b c : Option (List ℕ)) (xs ys : List ℕ) → Gave a b xs → GavePart b c ys
+    → GavePart a c (xs ++ ys)
 gave_more_part a b c xs ys p q =
     (length xs + q.0, omega (arith, q.1, length-append xs ys), rw (take-append-add xs ys q.0) (gave_more a b c xs (take q.0 ys) p q.2))
 
@@ -50,6 +51,7 @@ gave_told s None xs p = absurd p
 gave_told s (Some y) xs p = ap Some p
 
 -- where the bytes are told, a part of the new ones was added to them
-pub gave_part_told : (s : List ℕ) (b : Option (List ℕ)) (xs : List ℕ) → GavePart (Some s) b xs → (part : List ℕ) × (rest : List ℕ) × (xs ≡ part ++ rest) × (b ≡ Some (s ++ part))
+pub gave_part_told : (s : List ℕ) (b : Option (List ℕ)) (xs : List ℕ) → GavePart (Some s) b xs
+    → (part : List ℕ) × (rest : List ℕ) × (xs ≡ part ++ rest) × (b ≡ Some (s ++ part))
 gave_part_told s b xs p =
     (take p.0 xs, drop p.0 xs, sym (take-append-drop p.0 xs), gave_told s b (take p.0 xs) p.2)

@@ -3,8 +3,10 @@ use Rattle.std.proofs.Common.{◌≡◌, ℕ, ◌+◌, ◌-◌, ◌<◌, ◌≤�
 use Rattle.std.proofs.lemmas.List.{take_at, nil_from_length, drop-drop, take-append-drop, length-take-le, length-drop}
 
 -- what is copied to the front of a buffer was the front of what is left, and is nothing exactly at the end
-pub kept_read : (bytes front rest : List ℕ) (at count room : ℕ) → at ≤ length bytes → 0 < room → count ≡ min (length bytes - at) room → front ≡ take (at + count - at) (drop at bytes)
-    → (drop at bytes ≡ take count (front ++ rest) ++ drop (at + count) bytes) × ((count ≡ 0 → drop at bytes ≡ []) × (drop at bytes ≡ [] → count ≡ 0))
+pub kept_read : (bytes front rest : List ℕ) (at count room : ℕ) → at ≤ length bytes → 0 < room
+    → count ≡ min (length bytes - at) room → front ≡ take (at + count - at) (drop at bytes)
+    → (drop at bytes ≡ take count (front ++ rest) ++ drop (at + count) bytes)
+    × ((count ≡ 0 → drop at bytes ≡ []) × (drop at bytes ≡ [] → count ≡ 0))
 kept_read bytes front rest at count room within some counted copied =
     let same : at + count - at ≡ count = omega arith in
     let left = length-drop at bytes in

@@ -35,15 +35,19 @@ took_all_taken (Some x) None xs p = p
 took_all_taken (Some x) (Some y) xs p = p.0 ∙ sym (append-nil xs) ∙ ap (λ s. xs ++ s) (sym p.1)
 
 -- more than the most were taken, and the fact holds
-pub took_over : (a b : Option (List ℕ)) (xs : List ℕ) (most : ℕ) (fact : Type 0) → Took a b xs → most < length xs → fact → TookOverExactly a b most fact
-took_over None b xs most fact p more here = tt
-took_over (Some x) None xs most fact p more here = tt
+pub took_over : (a b : Option (List ℕ)) (xs : List ℕ) (most : ℕ) (fact : Type 0) → Took a b xs → most < length xs → fact
+    → TookOverExactly a b most fact
+took_over None None xs most fact p more here = tt
+took_over None (Some y) xs most fact p more here = p
+took_over (Some x) None xs most fact p more here = p
 took_over (Some x) (Some y) xs most fact p more here = (λ _. (xs, p, more), λ _. here)
 
 -- at most the most were taken, and the fact does not hold
-pub took_within : (a b : Option (List ℕ)) (xs : List ℕ) (most : ℕ) (fact : Type 0) → Took a b xs → length xs ≤ most → ¬ fact → TookOverExactly a b most fact
-took_within None b xs most fact p few never = tt
-took_within (Some x) None xs most fact p few never = tt
+pub took_within : (a b : Option (List ℕ)) (xs : List ℕ) (most : ℕ) (fact : Type 0) → Took a b xs → length xs ≤ most
+    → ¬ fact → TookOverExactly a b most fact
+took_within None None xs most fact p few never = tt
+took_within None (Some y) xs most fact p few never = p
+took_within (Some x) None xs most fact p few never = p
 took_within (Some x) (Some y) xs most fact p few never =
     (λ here. absurd (never here), λ over. (let lengths = ap length (sym p ∙ over.1) in absurd (omega (arith, over.2, few, length-append xs y, length-append over.0 y, lengths))))
 
@@ -53,7 +57,8 @@ took_silent None xs p = refl
 took_silent (Some y) xs p = absurd p
 
 -- where the bytes are told before, they are told after
-pub took_told : (s : List ℕ) (b : Option (List ℕ)) (xs : List ℕ) → Took (Some s) b xs → (left : List ℕ) × (b ≡ Some left) × (s ≡ xs ++ left)
+pub took_told : (s : List ℕ) (b : Option (List ℕ)) (xs : List ℕ) → Took (Some s) b xs
+    → (left : List ℕ) × (b ≡ Some left) × (s ≡ xs ++ left)
 took_told s None xs p = absurd p
 took_told s (Some y) xs p = (y, refl, p)
 
@@ -63,12 +68,14 @@ took_all_told s None xs p = absurd p
 took_all_told s (Some y) xs p = (p.0, ap Some p.1)
 
 -- where more than the most are left, they are not all taken within it
-pub not_all_within : (s : List ℕ) (b : Option (List ℕ)) (xs : List ℕ) (most : ℕ) → TookAll (Some s) b xs → length xs ≤ most → most < length s → ⊥
+pub not_all_within : (s : List ℕ) (b : Option (List ℕ)) (xs : List ℕ) (most : ℕ) → TookAll (Some s) b xs
+    → length xs ≤ most → most < length s → ⊥
 not_all_within s b xs most p few more =
     let lengths = ap length (took_all_told s b xs p).0 in omega (arith, few, more, lengths)
 
 -- where the fact holds, more than the most were taken
-pub over_told : (s : List ℕ) (b : Option (List ℕ)) (xs : List ℕ) (most : ℕ) (fact : Type 0) → Took (Some s) b xs → TookOverExactly (Some s) b most fact → fact
+pub over_told : (s : List ℕ) (b : Option (List ℕ)) (xs : List ℕ) (most : ℕ) (fact : Type 0) → Took (Some s) b xs
+    → TookOverExactly (Some s) b most fact → fact
     → (taken : List ℕ) × (left : List ℕ) × (s ≡ taken ++ left) × (b ≡ Some left) × (most < length taken)
 over_told s None xs most fact p over here = absurd p
 over_told s (Some y) xs most fact p over here =

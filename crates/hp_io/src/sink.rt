@@ -62,6 +62,3 @@ pub fn write_all<T: Sink>(out: &mut T, bytes: &[u8]) -> Result<(), WriteEnd>
     }
     Ok(())
 }
-
-#[cfg(test)]
-mod tests;

@@ -50,7 +50,7 @@ const BUFFER: usize = 8192;
 ///
 /// What was taken before an error is gone from the source.
 pub fn read_all<S: Source>(alloc: Global, src: &mut S, max: usize) -> Result<Vec<u8>, ReadEnd>
-    requires { max ≤ 1048576 }
+    requires { max < 2 ^ 64 - 1 }
     ensures short { IfOk result (λ all. length all.items ≤ max) }
     ensures whole { IfOk result (λ all. TookAll (S.left src.old) (S.left src.new) all.items) }
 
@@ -79,6 +79,3 @@ pub fn read_all<S: Source>(alloc: Global, src: &mut S, max: usize) -> Result<Vec
     }
     unreachable!()
 }
-
-#[cfg(test)]
-mod tests;

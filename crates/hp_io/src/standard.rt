@@ -1,8 +1,8 @@
 //! A source over std's readers and a sink over std's writers: the edge to the outside.
-ghost use Rattle.std.specs.Prelude.{◌≡◌, ℕ, ◌-◌, ◌^◌, ◌<◌, ◌≤◌, min, length, take, None, IfOk, IsErrOf};
+ghost use Rattle.std.specs.Prelude.{◌≡◌, ℕ, ◌-◌, ◌^◌, ◌<◌, ◌≤◌, min, length, take, None, IfOk, OnOk, IsErr, IsErrOf};
 ghost use Rattle.std.specs.Io.KnownBytes.{ReadConsumes, Appends};
 ghost use Rattle.std.proofs.Math.Nat.{min-le_right};
-ghost use Rattle.hp_io.specs.Bytes.{WriteGives};
+ghost use Rattle.hp_io.specs.Bytes.{ReadTakes, WriteGives};
 ghost use Rattle.hp_io.specs.Causes.{HasCause};
 
 use super::{Failed, Sink, SinkEnd, Source};
@@ -39,7 +39,14 @@ impl<I: Read + Drop> Source for StdinSource<I> {
 
     ghost count_fits = { λ source. min-le_right source (2 ^ 64 - 1) };
 
-    fn read(&mut self, buf: &mut [u8]) -> Result<usize, Failed> {
+    fn read(&mut self, buf: &mut [u8]) -> Result<usize, Failed>
+        requires { 0 < length buf.old }
+        ensures bound { IfOk result (λ count. count ≤ length buf.new) }
+        ensures bytes { ReadTakes None None result buf.new }
+        ensures counted { HasCause (min self.old (2 ^ 64 - 1)) (min self.new (2 ^ 64 - 1)) (IsErr result) }
+        // Without a fault the count stays.
+        ensures stays { OnOk result (self.new ≡ self.old) }
+    {
         let faults = self.faults;
         let answer = read_some(&mut self.from, buf);
         if answer.is_err() {
@@ -101,6 +108,8 @@ impl<W: Write + Drop> Sink for StdoutSink<W> {
         ensures bytes { WriteGives None None result piece.now }
         ensures counted { HasCause (min self.old (2 ^ 64 - 1)) (min self.new (2 ^ 64 - 1))
             (IsErrOf result SinkEnd.Failed) }
+        // Without a fault the count stays.
+        ensures stays { OnOk result (self.new ≡ self.old) }
         // It takes no memory.
         ensures never_memory { ¬ (IsErrOf result SinkEnd.Memory) }
     {
@@ -136,6 +145,3 @@ fn hand_over<W: Write>(to: &mut W, piece: &[u8]) -> Result<usize, Failed>
     }
     Err(Failed)
 }
-
-#[cfg(test)]
-mod tests;

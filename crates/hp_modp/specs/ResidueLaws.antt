@@ -7,7 +7,7 @@ use Rattle.std.proofs.lemmas.Bool.{cases_eq, eq-eqb, eqb-true}
 use Rattle.std.proofs.lemmas.Bool.Decides.{nat_tests}
 use Rattle.std.proofs.lemmas.Int.{ints}
 use Rattle.hp_algebra.specs.Ring.{IsRing, IsWeighted, IsWeightless, IsCommutative, IsDomain, IsField, IsNumbering, multiple_of_one, integer}
-use Rattle.hp_algebra.proofs.FirstBelow.{first-below}
+use Rattle.hp_lists.proofs.Firsts.{first-below}
 use Rattle.hp_modp.specs.Primes.{IsPrime}
 use Rattle.hp_modp.specs.Residues.{residue_ring, inverse_mod, residue_numbers}
 use Rattle.hp_modp.specs.Inverses.{has_inverse}

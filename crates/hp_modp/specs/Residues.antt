@@ -1,7 +1,7 @@
 -- The residues modulo p.
 use Rattle.std.specs.Prelude.{ℕ, ◌+◌, ◌-◌, ◌*◌, ◌%◌, ◌<◌, ◌==◌}
 use Rattle.hp_algebra.specs.Ring.{RingOf, Numbering}
-use Rattle.hp_algebra.specs.Lists.{first_below}
+use Rattle.hp_lists.specs.Lists.{first_below}
 
 abbrev pub residue_ring : ℕ → RingOf ℕ
 residue_ring p = record {

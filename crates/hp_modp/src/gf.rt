@@ -1,6 +1,6 @@
 //! The field of the residues modulo a prime.
 
-ghost use Rattle.std.specs.Prelude.{◌≡◌, ◌≢◌, ◌↔◌, ℕ, ◌+◌, ◌≤◌, ◌<◌, IfOk, IsTrue, IfSome, IsNone, refl};
+ghost use Rattle.std.specs.Prelude.{◌≡◌, ◌≢◌, ◌↔◌, ℕ, ◌+◌, ◌≤◌, ◌<◌, IfOk, IsOk, IsTrue, IfSome, IsNone, refl};
 ghost use Rattle.hp_modp.specs.Residues.{residue_ring, inverse_mod, residue_numbers};
 ghost use Rattle.hp_modp.specs.ResidueLaws.{residues-IsRing, residues-IsWeighted, residues-IsWeightless, residues-IsCommutative, residues-IsDomain, residues-IsField, residues-IsNumbering};
 
@@ -27,7 +27,8 @@ impl<M: Modulus> Model for Gf<M> {
 
 impl<M: Modulus> Clone for Gf<M> {
     fn clone(&self) -> Result<Self, AllocError>
-        ensures { IfOk result (λ r. r ≡ self.now) }
+        ensures value { IfOk result (λ r. r ≡ self.now) }
+        ensures always { IsOk result }
     {
         Ok(Gf {
             residue: self.residue,
@@ -66,23 +67,49 @@ impl<M: Modulus> Ring for Gf<M> {
 
     const MOST: u32 = 0;
 
-    fn zero(alloc: Global) -> Result<Self, NoMem> {
+    fn zero(alloc: Global) -> Result<Self, NoMem>
+        ensures value { IfOk result (λ r. r ≡ (residue_ring M.P).zero) }
+        ensures answer { IfOk result (residue_ring M.P).IsValue }
+        ensures always { IsOk result }
+    {
         Ok(Gf::new(0))
     }
 
-    fn one(alloc: Global) -> Result<Self, NoMem> {
+    fn one(alloc: Global) -> Result<Self, NoMem>
+        ensures value { IfOk result (λ r. r ≡ (residue_ring M.P).one) }
+        ensures answer { IfOk result (residue_ring M.P).IsValue }
+        ensures always { IsOk result }
+    {
         Ok(Gf::new(1))
     }
 
-    fn add(&self, alloc: Global, other: &Self) -> Result<Self, NoMem> {
+    fn add(&self, alloc: Global, other: &Self) -> Result<Self, NoMem>
+        ensures left { (residue_ring M.P).IsValue self.now }
+        ensures right { (residue_ring M.P).IsValue other.now }
+        ensures value { IfOk result (λ r. r ≡ (residue_ring M.P).add self.now other.now) }
+        ensures answer { IfOk result (residue_ring M.P).IsValue }
+        ensures always { IsOk result }
+    {
         Ok(self.plus(*other))
     }
 
-    fn neg(&self, alloc: Global) -> Result<Self, NoMem> {
+    fn neg(&self, alloc: Global) -> Result<Self, NoMem>
+        ensures of { (residue_ring M.P).IsValue self.now }
+        ensures value { IfOk result (λ r. r ≡ (residue_ring M.P).neg self.now) }
+        ensures answer { IfOk result (residue_ring M.P).IsValue }
+        ensures always { IsOk result }
+    {
         Ok(self.negate())
     }
 
-    fn mul(&self, alloc: Global, other: &Self) -> Result<Self, NoMem> {
+    fn mul(&self, alloc: Global, other: &Self) -> Result<Self, NoMem>
+        requires { (residue_ring M.P).weight self.now + (residue_ring M.P).weight other.now ≤ 0 }
+        ensures left { (residue_ring M.P).IsValue self.now }
+        ensures right { (residue_ring M.P).IsValue other.now }
+        ensures value { IfOk result (λ r. r ≡ (residue_ring M.P).mul self.now other.now) }
+        ensures answer { IfOk result (residue_ring M.P).IsValue }
+        ensures always { IsOk result }
+    {
         Ok(self.times(*other))
     }
 
@@ -124,7 +151,12 @@ impl<M: Modulus> Field for Gf<M> {
     }
 
     fn plus(self, other: Self) -> Self {
-        Gf::new((self.residue + other.residue) % M::P)
+        let p = M::P;
+        let sum = self.residue + other.residue;
+        if sum < p {
+            return Gf::new(sum);
+        }
+        Gf::new(sum - p)
     }
 
     fn minus(self, other: Self) -> Self {
@@ -132,7 +164,10 @@ impl<M: Modulus> Field for Gf<M> {
     }
 
     fn negate(self) -> Self {
-        Gf::new((M::P - self.residue) % M::P)
+        if self.is_nil() {
+            return self;
+        }
+        Gf::new(M::P - self.residue)
     }
 
     fn times(self, other: Self) -> Self {

@@ -3,8 +3,6 @@
 
 mod gf;
 mod modulus;
-#[cfg(test)]
-mod tests;
 
 pub use gf::Gf;
 pub use modulus::{Modulus, P5, P7, P13, P31, P101, P251, P32003, listed};

@@ -1,3 +1,5 @@
+pub mod ClassSteps
+pub mod Collecting
 pub mod Parts
 pub mod Places
 pub mod SetLaws

@@ -3,7 +3,7 @@ use Rattle.std.specs.Prelude.{◌≡◌, ℕ, ◌∷◌, ◌++◌, Contains, ◌
 use Rattle.std.proofs.lemmas.List.Elements.{Contains-append_left, Contains-append_right, Contains-append_cases}
 use mathlib.Core.Logic.{inl, inr}
 use mathlib.Core.Path.{sym, subst}
-use Rattle.hp_algebra.proofs.Members.{Contains-here, Contains-later, Contains-cases}
+use Rattle.hp_lists.proofs.Members.{Contains-here, Contains-later, Contains-cases}
 use Rattle.hp_sets.specs.Sets.{Set}
 
 -- each member of s is one of t

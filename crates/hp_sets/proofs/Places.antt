@@ -7,8 +7,8 @@ use Rattle.std.proofs.lemmas.List.Sums.{length-filter}
 use mathlib.Core.Logic.{inl, inr}
 use mathlib.Core.Path.{refl, sym, ap, ◌∙◌, subst}
 use native.Mathlib.Omega.{arith}
-use Rattle.hp_algebra.proofs.Members.{Contains-here, Contains-later, Contains-cases, Contains-none}
-use Rattle.hp_algebra.proofs.Rising.{Rises, rises_of, increasing_of}
+use Rattle.hp_lists.proofs.Members.{Contains-here, Contains-later, Contains-cases, Contains-none}
+use Rattle.hp_lists.proofs.Ordered.{Rises, rises_of, increasing_of}
 use Rattle.hp_sets.specs.Sets.{Set, IsSetWithin, contains, without_member, IsLeast, IsGreatest, HasSmaller}
 use Rattle.hp_sets.proofs.SetLaws.{set-ext, those-set}
 use Rattle.hp_sets.proofs.SetMembers.{without-members, members-without}

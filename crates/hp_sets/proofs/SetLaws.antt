@@ -6,9 +6,10 @@ use Rattle.std.proofs.lemmas.Bool.{eqb-true, eq-eqb, false_from_ne_true, or_left
 use mathlib.Core.Logic.{inl, inr}
 use mathlib.Core.Path.{refl, sym, ◌∙◌}
 use native.Mathlib.Omega.{arith}
-use Rattle.hp_algebra.specs.Lists.{one_to}
-use Rattle.hp_algebra.proofs.Members.{not_both, Contains-later, Contains-cases, Contains-none, Contains-filter, filter-Contains, filter-ext}
-use Rattle.hp_algebra.proofs.Rising.{rises_of, increasing_of, rising-ext, Ordered-filter, range_rises, range_members, members_range}
+use Rattle.hp_lists.specs.Lists.{one_to}
+use Rattle.hp_lists.proofs.Members.{not_both, Contains-later, Contains-cases, Contains-none, Contains-filter, filter-Contains, filter-ext}
+use Rattle.hp_lists.proofs.Ordered.{rises_of, increasing_of, rising-ext, Ordered-filter}
+use Rattle.hp_lists.proofs.Ranges.{range_rises, range_members, members_range}
 use Rattle.hp_sets.specs.Sets.{Set, IsSetWithin, contains, those}
 
 -- ---- members
@@ -91,19 +92,8 @@ single-set m i l h = record { rising = λ k l. absurd (none k l); members = All-
 
 All-range : (P : ℕ → Type 0) (a n : ℕ) → ((k : ℕ) → a ≤ k → k < a + n → P k) → All P (range_with_len a n)
 All-range P a zero h = All-nil P
-All-range P a (suc n) h = All-cons P a _ (h a (here a) (low a n)) (All-range P (a + 1) n (λ k l m. h k (step a k l) (next a n k m)))
-  where
-    here : (a : ℕ) → a ≤ a
-    here a = omega arith
-
-    low : (a n : ℕ) → a < a + suc n
-    low a n = omega arith
-
-    step : (a k : ℕ) → a + 1 ≤ k → a ≤ k
-    step a k l = omega arith
-
-    next : (a n k : ℕ) → k < (a + 1) + n → k < a + suc n
-    next a n k l = omega arith
+All-range P a (suc n) h =
+    All-cons P a _ (h a (omega arith) (omega arith)) (All-range P (a + 1) n (λ k l m. h k (omega arith) (omega arith)))
 
 pub one_to-set : (m : ℕ) → IsSetWithin m (one_to m)
 one_to-set m = record {

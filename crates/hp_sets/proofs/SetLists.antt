@@ -10,10 +10,10 @@ use Rattle.std.proofs.lemmas.Bool.{eqb-true, eqb-false, eq-eqb, lt-ltb, le-ltb}
 use mathlib.Core.Logic.{inl, inr}
 use mathlib.Core.Path.{refl, sym, ap, ◌∙◌, subst}
 use native.Mathlib.Omega.{arith}
-use Rattle.hp_algebra.specs.Lists.{one_to, sublists_of_length}
+use Rattle.hp_lists.specs.Lists.{one_to, sublists_of_length, Ordered}
 use Rattle.hp_sets.specs.Sets.{Set, IsSetWithin, cmp_listed, sets_of_at_most, sets_within}
-use Rattle.hp_algebra.proofs.Members.{Contains-here, Contains-later, Contains-cases, Contains-none, Contains-map, map-Contains}
-use Rattle.hp_algebra.proofs.Rising.{Ordered, Ordered-append, Rises, rises_of, increasing_of, sorted_of}
+use Rattle.hp_lists.proofs.Members.{Contains-here, Contains-later, Contains-cases, Contains-none, Contains-map, map-Contains}
+use Rattle.hp_lists.proofs.Ordered.{Ordered-append, Rises, rises_of, increasing_of, sorted_of}
 
 -- ---- rising lists within a range
 

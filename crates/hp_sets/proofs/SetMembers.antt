@@ -4,7 +4,7 @@ use Rattle.std.proofs.lemmas.List.Elements.{Contains-get_or}
 use Rattle.std.proofs.lemmas.Bool.{and_from, or_cases, or_left, or_right}
 use mathlib.Core.Logic.{inl, inr}
 use mathlib.Core.Path.{refl, sym, subst}
-use Rattle.hp_algebra.proofs.Members.{first_true, second_true, not_both, Contains-here, Contains-cases, Contains-none, Contains-later}
+use Rattle.hp_lists.proofs.Members.{first_true, second_true, not_both, Contains-here, Contains-cases, Contains-none, Contains-later}
 use Rattle.hp_sets.specs.Sets.{Set, IsSetWithin, contains, union, meet, minus, with_member, without_member}
 use Rattle.hp_sets.proofs.SetLaws.{contains-Contains, Contains-contains, set_members, those-set, those-members}
 

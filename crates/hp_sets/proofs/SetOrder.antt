@@ -7,13 +7,13 @@ use Rattle.std.proofs.lemmas.Bool.{cases_order}
 use mathlib.Core.Logic.{inl, inr}
 use mathlib.Core.Path.{refl, sym, ap, ◌∙◌, subst}
 use native.Mathlib.Omega.{arith}
-use Rattle.hp_algebra.proofs.Members.{not_both, Contains-here, Contains-later, Contains-cases, Contains-none}
-use Rattle.hp_algebra.proofs.Rising.{Rises, rises_of}
+use Rattle.hp_lists.proofs.Members.{not_both, Contains-here, Contains-later, Contains-none}
+use Rattle.hp_lists.proofs.Ordered.{Rises, rises_of}
 use Rattle.hp_sets.specs.Sets.{Set, IsSetWithin, contains, union, minus, cmp_listed}
 use Rattle.hp_sets.proofs.SetLaws.{contains-Contains, Contains-contains, set-ext, those-set}
 use Rattle.hp_sets.proofs.SetMembers.{union-members, minus-members, members-union_left, members-union_right}
 use Rattle.hp_sets.proofs.SetLists.{nat_less, nat_same}
-use Rattle.hp_sets.proofs.SetWithin.{within-none}
+use Rattle.hp_sets.proofs.SetWithin.{Contains-rest, within-none}
 use Rattle.hp_sets.proofs.Places.{first-least, get-low, get-none, get-Contains}
 
 -- the smaller set comes first
@@ -42,14 +42,6 @@ slice_cmp-apart (x ∷ s) (y ∷ t) d p q e h = step (cases_order x y) (slice_cm
     less : (a b : ℕ) → suc a ≡ suc b → a ≡ b
     less a b e = omega arith
 
-    -- what is in a list and is not its first is in the rest
-    rest : (z : ℕ) (us : Set) (j : ℕ) → (z ≡ j → ⊥) → Contains (z ∷ us) j → Contains us j
-    rest z us j n c = pick (Contains-cases z us j c)
-      where
-        pick : (z ≡ j) ⊎ Contains us j → Contains us j
-        pick (inl e) = absurd (n e)
-        pick (inr c) = c
-
     irreflexive : (a b : ℕ) → a ≡ b → a < b → ⊥
     irreflexive a b e l = omega arith
 
@@ -62,10 +54,10 @@ slice_cmp-apart (x ∷ s) (y ∷ t) d p q e h = step (cases_order x y) (slice_cm
     step (inl same) ih =
         ap (λ o. ordering_then o (slice_cmp nat_cmp s t)) (nat_same x y same)
         ∙ ih record {
-          inside = rest x s d (λ f. h.outside (subst (Contains (y ∷ t)) (sym same ∙ f) (Contains-here y t))) h.inside;
+          inside = Contains-rest x s d (λ f. h.outside (subst (Contains (y ∷ t)) (sym same ∙ f) (Contains-here y t))) h.inside;
           outside = λ c. h.outside (Contains-later y t d c);
-          forth = λ j l c. rest y t j (λ f. irreflexive x j (same ∙ f) (p.0 j c)) (h.forth j l (Contains-later x s j c));
-          back = λ j l c. rest x s j (λ f. irreflexive y j (sym same ∙ f) (q.0 j c)) (h.back j l (Contains-later y t j c));
+          forth = λ j l c. Contains-rest y t j (λ f. irreflexive x j (same ∙ f) (p.0 j c)) (h.forth j l (Contains-later x s j c));
+          back = λ j l c. Contains-rest x s j (λ f. irreflexive y j (sym same ∙ f) (q.0 j c)) (h.back j l (Contains-later y t j c));
         }
 
 -- and the other way round
@@ -88,6 +80,11 @@ pub record IsApart (s t m u : Set) : Type 0 where
   pub size : length s ≡ length t
   pub mine : m ≡ minus s t
   pub either : u ≡ union m (minus t s)
+
+-- u was made of what t has alone
+pub apart-of : (s t m u v : Set) → IsSetWithin 64 s → IsSetWithin 64 t → length s ≡ length t → m ≡ minus s t → u ≡ union m v → v ≡ minus t s → IsApart s t m u
+apart-of s t m u v set other_set size mine whole rest =
+    record { set = set; other_set = other_set; size = size; mine = mine; either = whole ∙ ap (union m) rest }
 
 module _ (s t m u : Set) (h : IsApart s t m u) where
   m_set : IsSetWithin 64 m

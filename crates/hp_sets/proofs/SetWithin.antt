@@ -4,8 +4,8 @@ use Rattle.std.proofs.lemmas.Bool.{cases_Bool, cases_eq, cases_lt, and_parts, no
 use mathlib.Core.Logic.{inl, inr}
 use mathlib.Core.Path.{refl, sym, ap, ◌∙◌, subst}
 use native.Mathlib.Omega.{arith}
-use Rattle.hp_algebra.proofs.Members.{not_both, Contains-here, Contains-later, Contains-cases, Contains-none, all-at, all-from}
-use Rattle.hp_algebra.proofs.Rising.{Rises, rises_of}
+use Rattle.hp_lists.proofs.Members.{not_both, Contains-here, Contains-later, Contains-cases, Contains-none, all-at, all-from}
+use Rattle.hp_lists.proofs.Ordered.{Rises, rises_of}
 use Rattle.hp_sets.specs.Sets.{Set, IsSetWithin, contains, minus, without_member, is_within, is_properly_within}
 use Rattle.hp_sets.proofs.SetLaws.{contains-Contains, Contains-contains, test-ext, set-ext, those-set}
 use Rattle.hp_sets.proofs.SetMembers.{without-members, members-without, minus-members, members-minus}
@@ -31,8 +31,8 @@ apart : (a b : ℕ) → a < b → a ≡ b → ⊥
 apart a b l e = omega arith
 
 -- what is in a list and is not its first is in the rest
-rest : (x : ℕ) (s : Set) (i : ℕ) → (x ≡ i → ⊥) → Contains (x ∷ s) i → Contains s i
-rest x s i n c = pick (Contains-cases x s i c)
+pub Contains-rest : (x : ℕ) (s : Set) (i : ℕ) → (x ≡ i → ⊥) → Contains (x ∷ s) i → Contains s i
+Contains-rest x s i n c = pick (Contains-cases x s i c)
   where
     pick : (x ≡ i) ⊎ Contains s i → Contains s i
     pick (inl e) = absurd (n e)
@@ -42,7 +42,7 @@ rest x s i n c = pick (Contains-cases x s i c)
 length-rising : (s t : Set) → Rises s → Rises t → ((i : ℕ) → Contains s i → Contains t i) → length s ≤ length t
 length-rising [] t p q f = omega arith
 length-rising (x ∷ s) [] p q f = absurd (Contains-none x (f x (Contains-here x s)))
-length-rising (x ∷ s) (y ∷ t) p q f = more (length s) (length t) (length-rising s t p.1 q.1 (λ i c. rest y t i (λ e. step i c e (Contains-cases y t x (f x (Contains-here x s)))) (f i (Contains-later x s i c))))
+length-rising (x ∷ s) (y ∷ t) p q f = more (length s) (length t) (length-rising s t p.1 q.1 (λ i c. Contains-rest y t i (λ e. step i c e (Contains-cases y t x (f x (Contains-here x s)))) (f i (Contains-later x s i c))))
   where
     more : (a b : ℕ) → a ≤ b → suc a ≤ suc b
     more a b l = omega arith
@@ -78,14 +78,14 @@ length-rising_less (x ∷ s) (y ∷ t) i p q f c n = step (cases_eq y x) (length
     -- where the first of t is not the first of s, it is not in s
     missing : (y ≡ x → ⊥) → (j : ℕ) → (x ≡ j) ⊎ Contains s j → y ≡ j → ⊥
     missing d j (inl e) g = d (g ∙ sym e)
-    missing d j (inr m) g = clash x y j (q.0 x (rest y t x d (f x (Contains-here x s)))) (p.0 j m) g
+    missing d j (inr m) g = clash x y j (q.0 x (Contains-rest y t x d (f x (Contains-here x s)))) (p.0 j m) g
 
     step : (y ≡ x) ⊎ (y ≡ x → ⊥) → (((j : ℕ) → Contains s j → Contains t j) → Contains t i → (Contains s i → ⊥) → length s < length t) → length (x ∷ s) < length (y ∷ t)
     step (inl e) ih = more (length s) (length t) (ih
-        (λ j m. rest y t j (λ g. apart x j (p.0 j m) (sym e ∙ g)) (f j (Contains-later x s j m)))
-        (rest y t i (λ g. n (subst (Contains (x ∷ s)) (sym e ∙ g) (Contains-here x s))) c)
+        (λ j m. Contains-rest y t j (λ g. apart x j (p.0 j m) (sym e ∙ g)) (f j (Contains-later x s j m)))
+        (Contains-rest y t i (λ g. n (subst (Contains (x ∷ s)) (sym e ∙ g) (Contains-here x s))) c)
         (λ m. n (Contains-later x s i m)))
-    step (inr d) ih = under (length (x ∷ s)) (length t) (length-rising (x ∷ s) t p q.1 (λ j m. rest y t j (missing d j (Contains-cases x s j m)) (f j m)))
+    step (inr d) ih = under (length (x ∷ s)) (length t) (length-rising (x ∷ s) t p q.1 (λ j m. Contains-rest y t j (missing d j (Contains-cases x s j m)) (f j m)))
 
 -- a set properly within another is smaller
 pub length-is_properly_within : (m k : ℕ) (s t : Set) → IsSetWithin m s → IsSetWithin k t → is_properly_within s t ≡ true → length s < length t

@@ -13,8 +13,9 @@ use native.Mathlib.Nat.{pow-suc}
 use mathlib.Core.Logic.{inl, inr}
 use mathlib.Core.Path.{refl, sym, ap, ◌∙◌, subst}
 use native.Mathlib.Omega.{arith}
-use Rattle.hp_algebra.specs.Lists.{one_to}
-use Rattle.hp_algebra.proofs.Rising.{rises_of, members_range}
+use Rattle.hp_lists.specs.Lists.{one_to}
+use Rattle.hp_lists.proofs.Ordered.{rises_of}
+use Rattle.hp_lists.proofs.Ranges.{members_range}
 use Rattle.hp_sets.specs.Sets.{Set, IsSetWithin, contains, those, union, meet, minus, is_within, IsLeast, IsGreatest}
 use Rattle.hp_sets.specs.Bits.{members, bits_of}
 use Rattle.hp_sets.specs.BitLaws.{bits_of-members, places, members-places, places-suc, half_below}
@@ -104,21 +105,14 @@ members-first n l h =
 place : (i : ℕ) → 1 ≤ i → i ≤ 64 → i - 1 < 64
 place i l h = omega arith
 
-or-bits : (x y : ℕ) → x < 2 → y < 2 → (max x y == 1) ≡ ((x == 1) || (y == 1))
-or-bits zero zero p q = refl
-or-bits zero (suc zero) p q = refl
-or-bits (suc zero) zero p q = refl
-or-bits (suc zero) (suc zero) p q = refl
-or-bits (suc (suc x)) y p q = absurd (omega arith)
-or-bits x (suc (suc y)) p q = absurd (omega arith)
-
-and-bits : (x y : ℕ) → x < 2 → y < 2 → (min x y == 1) ≡ ((x == 1) && (y == 1))
-and-bits zero zero p q = refl
-and-bits zero (suc zero) p q = refl
-and-bits (suc zero) zero p q = refl
-and-bits (suc zero) (suc zero) p q = refl
-and-bits (suc (suc x)) y p q = absurd (omega arith)
-and-bits x (suc (suc y)) p q = absurd (omega arith)
+-- the greater of two bits, and the smaller
+two-bits : (x y : ℕ) → x < 2 → y < 2 → ((max x y == 1) ≡ ((x == 1) || (y == 1))) × ((min x y == 1) ≡ ((x == 1) && (y == 1)))
+two-bits zero zero p q = (refl, refl)
+two-bits zero (suc zero) p q = (refl, refl)
+two-bits (suc zero) zero p q = (refl, refl)
+two-bits (suc zero) (suc zero) p q = (refl, refl)
+two-bits (suc (suc x)) y p q = absurd (omega arith)
+two-bits x (suc (suc y)) p q = absurd (omega arith)
 
 not-bits : (y : ℕ) → y < 2 → (1 - y == 1) ≡ not (y == 1)
 not-bits zero q = refl
@@ -128,19 +122,19 @@ not-bits (suc (suc y)) q = absurd (omega arith)
 pub members-or : (a b : ℕ) → members (bit_or a b) ≡ union (members a) (members b)
 members-or a b = members-those (bit_or a b) (λ i. contains (members a) i || contains (members b) i) (λ i l h.
     ap (λ m. m == 1) (bit_at_or a b (i - 1))
-    ∙ or-bits (bit_at a (i - 1)) (bit_at b (i - 1)) (bit_at-lt a (i - 1)) (bit_at-lt b (i - 1))
+    ∙ (two-bits (bit_at a (i - 1)) (bit_at b (i - 1)) (bit_at-lt a (i - 1)) (bit_at-lt b (i - 1))).0
     ∙ (λ j. sym (contains-members a i l h) j || sym (contains-members b i l h) j))
 
 pub members-and : (a b : ℕ) → members (bit_and a b) ≡ meet (members a) (members b)
 members-and a b = members-those (bit_and a b) (λ i. contains (members a) i && contains (members b) i) (λ i l h.
     ap (λ m. m == 1) (bit_at_and a b (i - 1))
-    ∙ and-bits (bit_at a (i - 1)) (bit_at b (i - 1)) (bit_at-lt a (i - 1)) (bit_at-lt b (i - 1))
+    ∙ (two-bits (bit_at a (i - 1)) (bit_at b (i - 1)) (bit_at-lt a (i - 1)) (bit_at-lt b (i - 1))).1
     ∙ (λ j. sym (contains-members a i l h) j && sym (contains-members b i l h) j))
 
 pub members-and_not : (a b : ℕ) → b < 2 ^ 64 → members (bit_and a (bit_not w64 b)) ≡ minus (members a) (members b)
 members-and_not a b k = members-those (bit_and a (bit_not w64 b)) (λ i. contains (members a) i && not (contains (members b) i)) (λ i l h.
     ap (λ m. m == 1) (bit_at_and a (bit_not w64 b) (i - 1))
-    ∙ and-bits (bit_at a (i - 1)) (bit_at (bit_not w64 b) (i - 1)) (bit_at-lt a (i - 1)) (bit_at-lt (bit_not w64 b) (i - 1))
+    ∙ (two-bits (bit_at a (i - 1)) (bit_at (bit_not w64 b) (i - 1)) (bit_at-lt a (i - 1)) (bit_at-lt (bit_not w64 b) (i - 1))).1
     ∙ (λ j. (bit_at a (i - 1) == 1) && (ap (λ m. m == 1) (bit_at_not w64 b (i - 1) k (place i l h)) ∙ not-bits (bit_at b (i - 1)) (bit_at-lt b (i - 1))) j)
     ∙ (λ j. sym (contains-members a i l h) j && not (sym (contains-members b i l h) j)))
 

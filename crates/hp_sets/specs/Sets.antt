@@ -4,7 +4,7 @@ use Rattle.std.specs.List.Sorted.{IsStrictlyIncreasing}
 use Rattle.std.specs.declared.cmp.Ordering.{Ordering}
 use Rattle.std.specs.Ordering.{nat_cmp, ordering_then}
 use Rattle.std.specs.Cmp.Lexicographic.{slice_cmp}
-use Rattle.hp_algebra.specs.Lists.{one_to, list_any, list_all, sublists_of_length}
+use Rattle.hp_lists.specs.Lists.{one_to, list_any, list_all, sublists_of_length}
 
 abbrev pub Set : Type 0
 Set = List ℕ

@@ -3,8 +3,6 @@
 
 mod flat;
 mod set;
-#[cfg(test)]
-mod tests;
 
 pub use flat::Flat;
 pub use set::HSet;

@@ -4,7 +4,7 @@ ghost use Rattle.std.specs.Prelude.{◌≡◌, ◌↔◌, ◌-◌, ◌≤◌, Is
 ghost use Rattle.std.specs.Ordering.{nat_cmp, as_partial_cmp};
 ghost use Rattle.std.specs.Cmp.{partial_equiv_from_equiv};
 ghost use Rattle.std.specs.Cmp.Lexicographic.{slice_cmp, pointwise, nat_list_eq_equiv};
-ghost use Rattle.hp_algebra.specs.Lists.{one_to};
+ghost use Rattle.hp_lists.specs.Lists.{one_to};
 ghost use Rattle.hp_sets.specs.ListedOrder.{cmp_listed_total, cmp_listed_partial, equal-cmp_listed};
 ghost use Rattle.hp_sets.specs.Sets.{IsSetWithin, contains, union, meet, minus, with_member, without_member, is_within, cmp_listed, IsLeast, IsGreatest, HasSmaller};
 

@@ -1,0 +1,13 @@
+pub mod Distinct
+pub mod Firsts
+pub mod Insertions
+pub mod ListSteps
+pub mod MapInsertions
+pub mod Members
+pub mod NaturalSums
+pub mod Ordered
+pub mod Pigeonhole
+pub mod Powers
+pub mod Ranges
+pub mod Removals
+pub mod WordsOver
