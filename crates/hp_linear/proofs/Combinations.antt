@@ -1,28 +1,31 @@
 -- Spans: what combinations of rows are closed under, and their values at a point.
-use Rattle.std.proofs.Common.{◌≡◌, ◌⊎◌, ℕ, zero, suc, ◌<◌, List, [], ◌∷◌, map, length, All, Contains, refl, sym, ap, subst, ◌∙◌, arith, inl, inr}
+use Rattle.std.proofs.Common.{◌≡◌, ◌⊎◌, ℕ, ◌<◌, List, [], ◌∷◌, map, length, All, Contains, refl, sym, ap, subst, ◌∙◌, arith, inl, inr}
 use Rattle.std.proofs.lemmas.List.Elements.{All-head, All-tail}
 use Rattle.hp_algebra.specs.Ring.{RingOf, IsRing, dot_of}
-use Rattle.hp_algebra.proofs.Rings.{mul_zero, zero_mul}
-use Rattle.hp_algebra.proofs.Dots.{dot_of_value}
-use Rattle.hp_linear.specs.Rows.{IsRow, entry, zero_row, row_plus, row_scale, row_times}
+use Rattle.hp_algebra.proofs.Rings.{mul_zero}
+use Rattle.hp_algebra.proofs.Dots.{dot-plus, dot-scale, dot-zeros}
+use Rattle.hp_algebra.specs.Rows.{IsRow, entry, zero_row, row_plus, row_scale, row_times}
 use Rattle.hp_linear.specs.Spaces.{IsCombination, HaveSameSpan}
-use Rattle.hp_linear.proofs.Members.{Contains-here, Contains-later, Contains-cases, Contains-none}
-use Rattle.hp_linear.proofs.Rows.{down, row-tail, row-cons, zeros-row, scale-row, plus-row, entry-plus, entry-scale, entry-zeros, plus-zeros, zeros-plus, plus-swap, scale-one, scale-zero, scale-zeros, scale-plus, plus-scale, scale-scale}
+use Rattle.hp_lists.proofs.Members.{Contains-here, Contains-later, Contains-cases, Contains-none}
+use Rattle.hp_algebra.proofs.Rows.{row-cons, zeros-row, scale-row, plus-row, entry-plus, entry-scale, entry-zeros, plus-zeros, zeros-plus, plus-swap, scale-one, scale-zero, scale-zeros, scale-plus, plus-scale, scale-scale}
 
 module _ {R : Type 0} {ring : RingOf R} (laws : IsRing ring) where
   -- a combination of rows is a row
-  pub times-row : (width : ℕ) (cs : List R) (rows : List (List R)) → All ring.IsValue cs → All (IsRow ring width) rows → IsRow ring width (row_times ring width cs rows)
+  pub times-row : (width : ℕ) (cs : List R) (rows : List (List R)) → All ring.IsValue cs → All (IsRow ring width) rows
+      → IsRow ring width (row_times ring width cs rows)
   times-row width [] rows v r = zeros-row laws width
   times-row width (c ∷ cs) [] v r = zeros-row laws width
   times-row width (c ∷ cs) (b ∷ rows) v r =
       plus-row laws width _ _ (scale-row laws width c b (All-head ring.IsValue c cs v) (All-head (IsRow ring width) b rows r))
       (times-row width cs rows (All-tail ring.IsValue c cs v) (All-tail (IsRow ring width) b rows r))
 
-  pub combination-row : (width : ℕ) (rows : List (List R)) (v : List R) → All (IsRow ring width) rows → IsCombination ring width rows v → IsRow ring width v
+  pub combination-row : (width : ℕ) (rows : List (List R)) (v : List R) → All (IsRow ring width) rows
+      → IsCombination ring width rows v → IsRow ring width v
   combination-row width rows v r c = subst (IsRow ring width) (sym c.2) (times-row width c.0 rows c.1.1 r)
 
   -- all coefficients zero
-  pub times-zeros : (width : ℕ) (rows : List (List R)) → All (IsRow ring width) rows → row_times ring width (zero_row ring (length rows)) rows ≡ zero_row ring width
+  pub times-zeros : (width : ℕ) (rows : List (List R)) → All (IsRow ring width) rows
+      → row_times ring width (zero_row ring (length rows)) rows ≡ zero_row ring width
   times-zeros width [] r = refl
   times-zeros width (b ∷ rows) r =
       ap (row_plus ring (row_scale ring ring.zero b)) (times-zeros width rows (All-tail (IsRow ring width) b rows r))
@@ -30,8 +33,10 @@ module _ {R : Type 0} {ring : RingOf R} (laws : IsRing ring) where
       ∙ plus-zeros laws width _ (zeros-row laws width)
 
   -- sums and multiples of the coefficients
-  pub times-plus : (width : ℕ) (cs ds : List R) (rows : List (List R)) → length cs ≡ length ds → All ring.IsValue cs → All ring.IsValue ds → All (IsRow ring width) rows
-      → row_times ring width (row_plus ring cs ds) rows ≡ row_plus ring (row_times ring width cs rows) (row_times ring width ds rows)
+  pub times-plus : (width : ℕ) (cs ds : List R) (rows : List (List R)) → length cs ≡ length ds → All ring.IsValue cs
+      → All ring.IsValue ds → All (IsRow ring width) rows
+      → row_times ring width (row_plus ring cs ds) rows
+      ≡ row_plus ring (row_times ring width cs rows) (row_times ring width ds rows)
   times-plus width [] [] rows e p q r = sym (plus-zeros laws width _ (zeros-row laws width))
   times-plus width [] (d ∷ ds) rows e p q r = absurd (omega (arith, e))
   times-plus width (c ∷ cs) [] rows e p q r = absurd (omega (arith, e))
@@ -44,11 +49,12 @@ module _ {R : Type 0} {ring : RingOf R} (laws : IsRing ring) where
       let rb = All-head (IsRow ring width) b rows r in
       let rt = All-tail (IsRow ring width) b rows r in
       let f = plus-scale laws width c d b vc vd rb in
-      let h = times-plus width cs ds rows (down _ _ e) pt qt rt in
+      let h = times-plus width cs ds rows (omega (arith, e)) pt qt rt in
       (λ i. row_plus ring (f i) (h i))
       ∙ plus-swap laws width _ _ _ _ (scale-row laws width c b vc rb) (scale-row laws width d b vd rb) (times-row width cs rows pt rt) (times-row width ds rows qt rt)
 
-  pub times-scale : (width : ℕ) (c : R) (ds : List R) (rows : List (List R)) → ring.IsValue c → All ring.IsValue ds → All (IsRow ring width) rows
+  pub times-scale : (width : ℕ) (c : R) (ds : List R) (rows : List (List R)) → ring.IsValue c → All ring.IsValue ds
+      → All (IsRow ring width) rows
       → row_times ring width (row_scale ring c ds) rows ≡ row_scale ring c (row_times ring width ds rows)
   times-scale width c [] rows v p r = sym (scale-zeros laws width c v)
   times-scale width c (d ∷ ds) [] v p r = sym (scale-zeros laws width c v)
@@ -65,14 +71,16 @@ module _ {R : Type 0} {ring : RingOf R} (laws : IsRing ring) where
     pub span-zero : IsCombination ring width rows (zero_row ring width)
     span-zero = (zero_row ring (length rows), zeros-row laws (length rows), sym (times-zeros width rows are))
 
-    pub span-plus : (a b : List R) → IsCombination ring width rows a → IsCombination ring width rows b → IsCombination ring width rows (row_plus ring a b)
+    pub span-plus : (a b : List R) → IsCombination ring width rows a → IsCombination ring width rows b
+        → IsCombination ring width rows (row_plus ring a b)
     span-plus a b p q = (
       row_plus ring p.0 q.0,
       plus-row laws (length rows) p.0 q.0 p.1 q.1,
       (λ i. row_plus ring (p.2 i) (q.2 i)) ∙ sym (times-plus width p.0 q.0 rows (p.1.0 ∙ sym q.1.0) p.1.1 q.1.1 are),
     )
 
-    pub span-scale : (c : R) (a : List R) → ring.IsValue c → IsCombination ring width rows a → IsCombination ring width rows (row_scale ring c a)
+    pub span-scale : (c : R) (a : List R) → ring.IsValue c → IsCombination ring width rows a
+        → IsCombination ring width rows (row_scale ring c a)
     span-scale c a v p = (
       row_scale ring c p.0,
       scale-row laws (length rows) c p.0 v p.1,
@@ -80,7 +88,8 @@ module _ {R : Type 0} {ring : RingOf R} (laws : IsRing ring) where
     )
 
   -- a combination of fewer rows is one of more
-  pub span-more : (width : ℕ) (b : List R) (rows : List (List R)) (a : List R) → IsRow ring width b → All (IsRow ring width) rows → IsCombination ring width rows a → IsCombination ring width (b ∷ rows) a
+  pub span-more : (width : ℕ) (b : List R) (rows : List (List R)) (a : List R) → IsRow ring width b
+      → All (IsRow ring width) rows → IsCombination ring width rows a → IsCombination ring width (b ∷ rows) a
   span-more width b rows a rb are p = (
     ring.zero ∷ p.0,
     row-cons laws (length rows) ring.zero p.0 laws.zero_value p.1,
@@ -88,7 +97,8 @@ module _ {R : Type 0} {ring : RingOf R} (laws : IsRing ring) where
   )
 
   -- each row is a combination of the rows
-  pub span-member : (width : ℕ) (rows : List (List R)) (a : List R) → All (IsRow ring width) rows → Contains rows a → IsCombination ring width rows a
+  pub span-member : (width : ℕ) (rows : List (List R)) (a : List R) → All (IsRow ring width) rows → Contains rows a
+      → IsCombination ring width rows a
   span-member width [] a are c = absurd (Contains-none a c)
   span-member width (b ∷ rows) a are c = step (span-member width rows a tail) (Contains-cases b rows a c)
     where
@@ -105,13 +115,16 @@ module _ {R : Type 0} {ring : RingOf R} (laws : IsRing ring) where
         sym (ap (row_plus ring (row_scale ring ring.one b)) (times-zeros width rows tail) ∙ ap (λ s. row_plus ring s (zero_row ring width)) (scale-one laws width b head) ∙ plus-zeros laws width b head),
       )
 
-      step : (Contains rows a → IsCombination ring width rows a) → (b ≡ a) ⊎ Contains rows a → IsCombination ring width (b ∷ rows) a
+      step : (Contains rows a → IsCombination ring width rows a) → (b ≡ a) ⊎ Contains rows a
+          → IsCombination ring width (b ∷ rows) a
       step ih (inl e) = subst (IsCombination ring width (b ∷ rows)) e first
       step ih (inr d) = span-more width b rows a head tail (ih d)
 
   -- the span of combinations holds no more
-  pub span-times : (width : ℕ) (rows others : List (List R)) (cs : List R) → All (IsRow ring width) rows → All ring.IsValue cs
-      → ((b : List R) → Contains others b → IsCombination ring width rows b) → IsCombination ring width rows (row_times ring width cs others)
+  pub span-times : (width : ℕ) (rows others : List (List R)) (cs : List R) → All (IsRow ring width) rows
+      → All ring.IsValue cs
+      → ((b : List R) → Contains others b → IsCombination ring width rows b)
+      → IsCombination ring width rows (row_times ring width cs others)
   span-times width rows others [] are v h = span-zero width rows are
   span-times width rows [] (c ∷ cs) are v h = span-zero width rows are
   span-times width rows (b ∷ others) (c ∷ cs) are v h =
@@ -119,83 +132,43 @@ module _ {R : Type 0} {ring : RingOf R} (laws : IsRing ring) where
       (span-times width rows others cs are (All-tail ring.IsValue c cs v) (λ a m. h a (Contains-later b others a m)))
 
   pub span-least : (width : ℕ) (rows others : List (List R)) (a : List R) → All (IsRow ring width) rows
-      → ((b : List R) → Contains others b → IsCombination ring width rows b) → IsCombination ring width others a → IsCombination ring width rows a
+      → ((b : List R) → Contains others b → IsCombination ring width rows b) → IsCombination ring width others a
+      → IsCombination ring width rows a
   span-least width rows others a are h c = subst (IsCombination ring width rows) (sym c.2) (span-times width rows others c.0 are c.1.1 h)
 
   -- rows that are combinations of each other have one span
-  pub same_span-from : (width : ℕ) (rows others : List (List R)) → All (IsRow ring width) rows → All (IsRow ring width) others
-      → ((b : List R) → Contains others b → IsCombination ring width rows b) → ((a : List R) → Contains rows a → IsCombination ring width others a) → HaveSameSpan ring width rows others
+  pub same_span-from : (width : ℕ) (rows others : List (List R)) → All (IsRow ring width) rows
+      → All (IsRow ring width) others
+      → ((b : List R) → Contains others b → IsCombination ring width rows b)
+      → ((a : List R) → Contains rows a → IsCombination ring width others a) → HaveSameSpan ring width rows others
   same_span-from width rows others p q f g v = (span-least width others rows v q g, span-least width rows others v p f)
 
   -- ---- values at a point
 
-  pub dot-plus : (width : ℕ) (a b x : List R) → IsRow ring width a → IsRow ring width b → IsRow ring width x → dot_of ring (row_plus ring a b) x ≡ ring.add (dot_of ring a x) (dot_of ring b x)
-  dot-plus width [] b x ra rb rx = from_nothing b rb.0
-    where
-      from_nothing : (b : List R) → length b ≡ width → ring.zero ≡ ring.add ring.zero (dot_of ring b x)
-      from_nothing [] e = sym (laws.add_zero _ laws.zero_value)
-      from_nothing (y ∷ b) e = absurd (omega (arith, e, ra.0))
-  dot-plus width (u ∷ a) [] x ra rb rx = absurd (omega (arith, ra.0, rb.0))
-  dot-plus width (u ∷ a) (y ∷ b) [] ra rb rx = absurd (omega (arith, ra.0, rx.0))
-  dot-plus zero (u ∷ a) (y ∷ b) (z ∷ x) ra rb rx = absurd (omega (arith, ra.0))
-  dot-plus (suc width) (u ∷ a) (y ∷ b) (z ∷ x) ra rb rx =
-      let vu = All-head ring.IsValue u a ra.1 in
-      let vy = All-head ring.IsValue y b rb.1 in
-      let vz = All-head ring.IsValue z x rx.1 in
-      let ta = row-tail laws width u a ra in
-      let tb = row-tail laws width y b rb in
-      let tx = row-tail laws width z x rx in
-      let p = laws.add_mul u y z vu vy vz in
-      let q = dot-plus width a b x ta tb tx in
-      let uz = laws.mul_value u z vu vz in
-      let yz = laws.mul_value y z vy vz in
-      let da = dot_of_value laws a x ta.1 tx.1 in
-      let db = dot_of_value laws b x tb.1 tx.1 in
-      (λ i. ring.add (p i) (q i))
-      ∙ laws.add_assoc _ _ _ uz yz (laws.add_value _ _ da db)
-      ∙ ap (ring.add (ring.mul u z)) (sym (laws.add_assoc _ _ _ yz da db) ∙ ap (λ s. ring.add s (dot_of ring b x)) (laws.add_comm _ _ yz da) ∙ laws.add_assoc _ _ _ da yz db)
-      ∙ sym (laws.add_assoc _ _ _ uz da (laws.add_value _ _ yz db))
-
-  pub dot-scale : (c : R) (a x : List R) → ring.IsValue c → All ring.IsValue a → All ring.IsValue x → dot_of ring (row_scale ring c a) x ≡ ring.mul c (dot_of ring a x)
-  dot-scale c [] x v p q = sym (mul_zero laws c v)
-  dot-scale c (u ∷ a) [] v p q = sym (mul_zero laws c v)
-  dot-scale c (u ∷ a) (z ∷ x) v p q =
-      let vu = All-head ring.IsValue u a p in
-      let vz = All-head ring.IsValue z x q in
-      let pt = All-tail ring.IsValue u a p in
-      let qt = All-tail ring.IsValue z x q in
-      let e = laws.mul_assoc c u z v vu vz in
-      let f = dot-scale c a x v pt qt in
-      (λ i. ring.add (e i) (f i)) ∙ sym (laws.mul_add c _ _ v (laws.mul_value u z vu vz) (dot_of_value laws a x pt qt))
-
-  pub dot-zeros : (width : ℕ) (x : List R) → All ring.IsValue x → dot_of ring (zero_row ring width) x ≡ ring.zero
-  dot-zeros zero x p = refl
-  dot-zeros (suc width) [] p = refl
-  dot-zeros (suc width) (z ∷ x) p =
-      let e = zero_mul laws z (All-head ring.IsValue z x p) in
-      let f = dot-zeros width x (All-tail ring.IsValue z x p) in
-      (λ i. ring.add (e i) (f i)) ∙ laws.add_zero _ laws.zero_value
-
   -- a combination is zero where the rows are
-  pub dot-combination : (width : ℕ) (rows : List (List R)) (cs x : List R) → All (IsRow ring width) rows → All ring.IsValue cs → IsRow ring width x
-      → ((b : List R) → Contains rows b → dot_of ring b x ≡ ring.zero) → dot_of ring (row_times ring width cs rows) x ≡ ring.zero
-  dot-combination width rows [] x are v r h = dot-zeros width x r.1
-  dot-combination width [] (c ∷ cs) x are v r h = dot-zeros width x r.1
+  pub dot-combination : (width : ℕ) (rows : List (List R)) (cs x : List R) → All (IsRow ring width) rows
+      → All ring.IsValue cs → IsRow ring width x
+      → ((b : List R) → Contains rows b → dot_of ring b x ≡ ring.zero)
+      → dot_of ring (row_times ring width cs rows) x ≡ ring.zero
+  dot-combination width rows [] x are v r h = dot-zeros laws width x r.1
+  dot-combination width [] (c ∷ cs) x are v r h = dot-zeros laws width x r.1
   dot-combination width (b ∷ rows) (c ∷ cs) x are v r h =
       let vc = All-head ring.IsValue c cs v in
       let vt = All-tail ring.IsValue c cs v in
       let rb = All-head (IsRow ring width) b rows are in
       let rt = All-tail (IsRow ring width) b rows are in
-      let e = dot-scale c b x vc rb.1 r.1 ∙ ap (ring.mul c) (h b (Contains-here b rows)) ∙ mul_zero laws c vc in
+      let e = dot-scale laws c b x vc rb.1 r.1 ∙ ap (ring.mul c) (h b (Contains-here b rows)) ∙ mul_zero laws c vc in
       let f = dot-combination width rows cs x rt vt r (λ a m. h a (Contains-later b rows a m)) in
-      dot-plus width _ _ x (scale-row laws width c b vc rb) (times-row width cs rows vt rt) r ∙ (λ i. ring.add (e i) (f i)) ∙ laws.add_zero _ laws.zero_value
+      dot-plus laws width _ _ x (scale-row laws width c b vc rb) (times-row width cs rows vt rt) r ∙ (λ i. ring.add (e i) (f i)) ∙ laws.add_zero _ laws.zero_value
 
   pub span-dot : (width : ℕ) (rows : List (List R)) (a x : List R) → All (IsRow ring width) rows → IsRow ring width x
-      → ((b : List R) → Contains rows b → dot_of ring b x ≡ ring.zero) → IsCombination ring width rows a → dot_of ring a x ≡ ring.zero
+      → ((b : List R) → Contains rows b → dot_of ring b x ≡ ring.zero) → IsCombination ring width rows a
+      → dot_of ring a x ≡ ring.zero
   span-dot width rows a x are r h c = ap (λ s. dot_of ring s x) c.2 ∙ dot-combination width rows c.0 x are c.1.1 r h
 
   -- an entry of a combination
-  pub entry-times : (width : ℕ) (cs : List R) (rows : List (List R)) (j : ℕ) → j < width → All ring.IsValue cs → All (IsRow ring width) rows
+  pub entry-times : (width : ℕ) (cs : List R) (rows : List (List R)) (j : ℕ) → j < width → All ring.IsValue cs
+      → All (IsRow ring width) rows
       → entry ring (row_times ring width cs rows) j ≡ dot_of ring cs (map (λ row. entry ring row j) rows)
   entry-times width [] rows j h v r = entry-zeros laws width j h
   entry-times width (c ∷ cs) [] j h v r = entry-zeros laws width j h

@@ -5,25 +5,11 @@ use Rattle.std.proofs.lemmas.Bool.{false≢true, cases_eq}
 use Rattle.std.proofs.lemmas.List.Elements.{All-nil, All-cons, All-head, All-tail, All-map}
 use Rattle.hp_algebra.specs.Ring.{RingOf, IsRing, IsField}
 use Rattle.hp_algebra.proofs.Rings.{mul_zero, zero_mul}
-use Rattle.hp_linear.specs.Rows.{IsRow, entry, zero_row, row_plus, row_scale, row_times}
+use Rattle.hp_algebra.specs.Rows.{IsRow, entry, zero_row, row_plus, row_scale, row_times}
 use Rattle.hp_linear.specs.Spaces.{AreCoefficients}
-use Rattle.hp_linear.proofs.Rows.{row-tail, row-cons, zeros-row, scale-row, plus-row, entry-value, entry-plus, entry-scale, plus-zeros, plus-comm, plus-assoc, plus-swap, scale-one, plus-scale, scale-plus, scale-scale, scale-zero, zero_row-ext}
+use Rattle.hp_algebra.proofs.Rows.{row-tail, row-cons, zeros-row, scale-row, plus-row, entry-value, entry-plus, entry-scale, plus-zeros, plus-comm, plus-assoc, plus-swap, scale-one, plus-scale, scale-plus, scale-scale, scale-zero, zero_row-ext}
+use Rattle.hp_lists.proofs.Insertions.{Pick, here, later, pick-length, pick-All}
 use Rattle.hp_linear.proofs.Combinations.{times-row, times-zeros}
-
--- one member of a list, and the others in order
-pub data Pick {X : Type 0} : List X → X → List X → Type 0 where
-  here : (x : X) (xs : List X) → Pick (x ∷ xs) x xs
-  later : (y x : X) (xs others : List X) → Pick xs x others → Pick (y ∷ xs) x (y ∷ others)
-
-pub pick-length : {X : Type 0} (xs : List X) (x : X) (others : List X) → Pick xs x others → length xs ≡ suc (length others)
-pick-length _ _ _ (here x xs) = refl
-pick-length _ _ _ (later y x xs others p) = ap (λ n. suc n) (pick-length xs x others p)
-
-pub pick-All : {X : Type 0} (P : X → Type 0) (xs : List X) (x : X) (others : List X) → Pick xs x others → All P xs → P x × All P others
-pick-All P _ _ _ (here x xs) a = (All-head P x xs a, All-tail P x xs a)
-pick-All P _ _ _ (later y x xs others p) a =
-    let r = pick-All P xs x others p (All-tail P y xs a) in
-    (r.0, All-cons P y others (All-head P y xs a) r.1)
 
 tail_of : {X : Type 0} → List X → List X
 tail_of [] = []
@@ -50,8 +36,10 @@ module _ {R : Type 0} {ring : RingOf R} {inverse : R → R} (field : IsField rin
       × (row_times ring width ds rows ≡ row_plus ring (row_times ring width cs others) (row_scale ring t r))
       × (ds ≡ zero_row ring (length rows) → cs ≡ zero_row ring (length others))
 
-  spread : (width : ℕ) (rows : List (List R)) (r : List R) (others : List (List R)) → Pick rows r others → All (IsRow ring width) rows
-      → (cs : List R) (t : R) → AreCoefficients ring (length others) cs → ring.IsValue t → (ds : List R) × IsSpread width rows r others cs t ds
+  spread : (width : ℕ) (rows : List (List R)) (r : List R) (others : List (List R)) → Pick rows r others
+      → All (IsRow ring width) rows
+      → (cs : List R) (t : R) → AreCoefficients ring (length others) cs → ring.IsValue t
+      → (ds : List R) × IsSpread width rows r others cs t ds
   unfolding tail_of head_of
   spread width _ _ _ (here r others) are cs t a v =
       let L = field.is_ring in
@@ -86,19 +74,22 @@ module _ {R : Type 0} {ring : RingOf R} {inverse : R → R} (field : IsField rin
   cleared_at : ℕ → List R → List R → List R
   cleared_at n r x = row_plus ring x (row_scale ring (ring.neg (ring.mul (entry ring x n) (inverse (entry ring r n)))) r)
 
-  factor-value : (width n : ℕ) (r x : List R) → n < width → IsRow ring width r → IsRow ring width x → entry ring r n ≢ ring.zero
+  factor-value : (width n : ℕ) (r x : List R) → n < width → IsRow ring width r → IsRow ring width x
+      → entry ring r n ≢ ring.zero
       → ring.IsValue (ring.neg (ring.mul (entry ring x n) (inverse (entry ring r n))))
   factor-value width n r x h rr rx nz =
       let L = field.is_ring in
       L.neg_value _ (L.mul_value _ _ (entry-value L width x n h rx) (field.inverse_value _ (entry-value L width r n h rr) nz))
 
-  cleared-row : (width n : ℕ) (r x : List R) → n < width → IsRow ring width r → IsRow ring width x → entry ring r n ≢ ring.zero → IsRow ring width (cleared_at n r x)
+  cleared-row : (width n : ℕ) (r x : List R) → n < width → IsRow ring width r → IsRow ring width x
+      → entry ring r n ≢ ring.zero → IsRow ring width (cleared_at n r x)
   unfolding cleared_at
   cleared-row width n r x h rr rx nz =
       let L = field.is_ring in
       plus-row L width x _ rx (scale-row L width _ r (factor-value width n r x h rr rx nz) rr)
 
-  cleared-zero : (width n : ℕ) (r x : List R) → n < width → IsRow ring width r → IsRow ring width x → entry ring r n ≢ ring.zero → entry ring (cleared_at n r x) n ≡ ring.zero
+  cleared-zero : (width n : ℕ) (r x : List R) → n < width → IsRow ring width r → IsRow ring width x
+      → entry ring r n ≢ ring.zero → entry ring (cleared_at n r x) n ≡ ring.zero
   unfolding cleared_at
   cleared-zero width n r x h rr rx nz =
       let L = field.is_ring in
@@ -122,7 +113,8 @@ module _ {R : Type 0} {ring : RingOf R} {inverse : R → R} (field : IsField rin
   -- a combination of the cleared rows is one of the rows and r
   cleared-times : (width n : ℕ) (r : List R) → n < width → IsRow ring width r → entry ring r n ≢ ring.zero
       → (cs : List R) (rows : List (List R)) → All ring.IsValue cs → All (IsRow ring width) rows
-      → (t : R) × ring.IsValue t × (row_times ring width cs (map (cleared_at n r) rows) ≡ row_plus ring (row_times ring width cs rows) (row_scale ring t r))
+      → (t : R) × ring.IsValue t
+      × (row_times ring width cs (map (cleared_at n r) rows) ≡ row_plus ring (row_times ring width cs rows) (row_scale ring t r))
   unfolding cleared_at
   cleared-times width n r h rr nz [] rows v are =
       let L = field.is_ring in
@@ -151,7 +143,8 @@ module _ {R : Type 0} {ring : RingOf R} {inverse : R → R} (field : IsField rin
 
   -- either a row is not zero at n, or all are zero there
   find_row : (width n : ℕ) → n < width → (rows : List (List R)) → All (IsRow ring width) rows
-      → ((r : List R) × (others : List (List R)) × Pick rows r others × (entry ring r n ≢ ring.zero)) ⊎ All (λ x. entry ring x n ≡ ring.zero) rows
+      → ((r : List R) × (others : List (List R)) × Pick rows r others × (entry ring r n ≢ ring.zero))
+      ⊎ All (λ x. entry ring x n ≡ ring.zero) rows
   find_row width n h [] are = inr (All-nil (λ x. entry ring x n ≡ ring.zero))
   find_row width n h (x ∷ rows) are = step (ring.is_zero (entry ring x n)) refl (find_row width n h rows (All-tail (IsRow ring width) x rows are))
     where
@@ -159,8 +152,10 @@ module _ {R : Type 0} {ring : RingOf R} {inverse : R → R} (field : IsField rin
       test = field.is_ring.zero_test _ (entry-value field.is_ring width x n h (All-head (IsRow ring width) x rows are))
 
       step : (b : Bool) → ring.is_zero (entry ring x n) ≡ b
-          → ((r : List R) × (others : List (List R)) × Pick rows r others × (entry ring r n ≢ ring.zero)) ⊎ All (λ x. entry ring x n ≡ ring.zero) rows
-          → ((r : List R) × (others : List (List R)) × Pick (x ∷ rows) r others × (entry ring r n ≢ ring.zero)) ⊎ All (λ x. entry ring x n ≡ ring.zero) (x ∷ rows)
+          → ((r : List R) × (others : List (List R)) × Pick rows r others × (entry ring r n ≢ ring.zero))
+          ⊎ All (λ x. entry ring x n ≡ ring.zero) rows
+          → ((r : List R) × (others : List (List R)) × Pick (x ∷ rows) r others × (entry ring r n ≢ ring.zero))
+          ⊎ All (λ x. entry ring x n ≡ ring.zero) (x ∷ rows)
       step false e rest = inl (x, rows, here x rows, λ z. false≢true (sym e ∙ test.1 z))
       step true e (inl w) = inl (w.0, x ∷ w.1, later x w.0 rows w.1 w.2, w.3)
       step true e (inr all) = inr (All-cons (λ x. entry ring x n ≡ ring.zero) x rows (test.0 e) all)
@@ -169,7 +164,8 @@ module _ {R : Type 0} {ring : RingOf R} {inverse : R → R} (field : IsField rin
   abbrev AreZeroFrom : ℕ → ℕ → List (List R) → Type 0
   AreZeroFrom width n rows = All (λ x. (j : ℕ) → n ≤ j → j < width → entry ring x j ≡ ring.zero) rows
 
-  dependence-from : (n width : ℕ) (rows : List (List R)) → n ≤ width → All (IsRow ring width) rows → AreZeroFrom width n rows → n < length rows → (cs : List R) × IsDependence ring width rows cs
+  dependence-from : (n width : ℕ) (rows : List (List R)) → n ≤ width → All (IsRow ring width) rows
+      → AreZeroFrom width n rows → n < length rows → (cs : List R) × IsDependence ring width rows cs
   unfolding head_of cleared_at
   dependence-from zero width [] low are zeros more = absurd (omega arith)
   dependence-from zero width (r ∷ rows) low are zeros more =
@@ -192,7 +188,8 @@ module _ {R : Type 0} {ring : RingOf R} {inverse : R → R} (field : IsField rin
       low' : n < width
       low' = omega arith
 
-      step : ((r : List R) × (others : List (List R)) × Pick rows r others × (entry ring r n ≢ ring.zero)) ⊎ All (λ x. entry ring x n ≡ ring.zero) rows
+      step : ((r : List R) × (others : List (List R)) × Pick rows r others × (entry ring r n ≢ ring.zero))
+          ⊎ All (λ x. entry ring x n ≡ ring.zero) rows
           → ((rs : List (List R)) → n ≤ width → All (IsRow ring width) rs → AreZeroFrom width n rs → n < length rs → (cs : List R) × IsDependence ring width rs cs)
           → (cs : List R) × IsDependence ring width rows cs
       step (inr all) ih = ih rows (omega arith) are (λ k d h j lo hi. elim (cases_eq n j) [ inl e ↦ subst (λ m. entry ring (get_or rows k d) m ≡ ring.zero) e (all k d h) | inr ne ↦ zeros k d h j (omega arith) hi ]) (omega arith)
@@ -220,7 +217,9 @@ module _ {R : Type 0} {ring : RingOf R} {inverse : R → R} (field : IsField rin
             },
           )
         where
-          later_zero : (x r : List R) → IsRow ring width x → IsRow ring width r → entry ring r n ≢ ring.zero → ((j : ℕ) → suc n ≤ j → j < width → entry ring x j ≡ ring.zero) → ((j : ℕ) → suc n ≤ j → j < width → entry ring r j ≡ ring.zero)
+          later_zero : (x r : List R) → IsRow ring width x → IsRow ring width r → entry ring r n ≢ ring.zero
+              → ((j : ℕ) → suc n ≤ j → j < width → entry ring x j ≡ ring.zero)
+              → ((j : ℕ) → suc n ≤ j → j < width → entry ring r j ≡ ring.zero)
               → (j : ℕ) → n ≤ j → j < width → (n ≡ j) ⊎ (n ≢ j) → entry ring (cleared_at n r x) j ≡ ring.zero
           later_zero x r rx rr nz zx zr j lo hi (inl e) = subst (λ m. entry ring (cleared_at n r x) m ≡ ring.zero) e (cleared-zero width n r x low' rr rx nz)
           later_zero x r rx rr nz zx zr j lo hi (inr ne) =
@@ -232,5 +231,6 @@ module _ {R : Type 0} {ring : RingOf R} {inverse : R → R} (field : IsField rin
               ∙ L.add_zero _ L.zero_value
 
   -- More rows than columns are dependent.
-  pub dependence : (width : ℕ) (rows : List (List R)) → All (IsRow ring width) rows → width < length rows → (cs : List R) × IsDependence ring width rows cs
+  pub dependence : (width : ℕ) (rows : List (List R)) → All (IsRow ring width) rows → width < length rows
+      → (cs : List R) × IsDependence ring width rows cs
   dependence width rows are more = dependence-from width width rows (omega arith) are (λ k d h j lo hi. absurd (omega arith)) more

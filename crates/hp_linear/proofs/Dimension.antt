@@ -4,11 +4,11 @@ use Rattle.std.proofs.lemmas.List.Elements.{All-nil, All-cons, All-head, All-tai
 use Rattle.std.proofs.lemmas.Bool.{ltb-true, ltb-false}
 use Rattle.std.specs.Prelude.{nat_lt}
 use Rattle.hp_algebra.specs.Ring.{RingOf, IsField}
-use Rattle.hp_linear.specs.Rows.{IsRow, zero_row, row_plus, row_scale, row_times}
+use Rattle.hp_algebra.specs.Rows.{IsRow, zero_row, row_plus, row_scale, row_times}
 use Rattle.hp_linear.specs.Spaces.{AreCoefficients, AreIndependent, IsCombination, HasDimension}
 use Rattle.hp_linear.specs.Matrices.{Matrix, IsMatrix, IsRank, IsInRowSpace}
-use Rattle.hp_linear.proofs.Members.{Contains-here, Contains-later, each-All}
-use Rattle.hp_linear.proofs.Rows.{scale-row}
+use Rattle.hp_lists.proofs.Members.{Contains-here, Contains-later, each-All}
+use Rattle.hp_algebra.proofs.Rows.{scale-row}
 use Rattle.hp_linear.proofs.Combinations.{times-row, times-zeros, times-plus, times-scale, combination-row}
 use Rattle.hp_linear.proofs.Dependence.{dependence}
 
@@ -17,10 +17,13 @@ module _ {R : Type 0} {ring : RingOf R} {inverse : R → R} (field : IsField rin
   pub record AreMadeOf (width : ℕ) (rows made coefficients : List (List R)) : Type 0 where
     pub are : All (IsRow ring (length rows)) coefficients
     pub many : length coefficients ≡ length made
-    pub same : (cs : List R) → All ring.IsValue cs → row_times ring width cs made ≡ row_times ring width (row_times ring (length rows) cs coefficients) rows
+    pub same : (cs : List R) → All ring.IsValue cs
+        → row_times ring width cs made ≡ row_times ring width (row_times ring (length rows) cs coefficients) rows
 
-  made-cons : (width : ℕ) (rows : List (List R)) (b : List R) (made : List (List R)) → All (IsRow ring width) rows → IsCombination ring width rows b
-      → ((coefficients : List (List R)) × AreMadeOf width rows made coefficients) → (coefficients : List (List R)) × AreMadeOf width rows (b ∷ made) coefficients
+  made-cons : (width : ℕ) (rows : List (List R)) (b : List R) (made : List (List R)) → All (IsRow ring width) rows
+      → IsCombination ring width rows b
+      → ((coefficients : List (List R)) × AreMadeOf width rows made coefficients)
+      → (coefficients : List (List R)) × AreMadeOf width rows (b ∷ made) coefficients
   made-cons width rows b made are first rest = (
     first.0 ∷ rest.0,
     record {
@@ -30,7 +33,9 @@ module _ {R : Type 0} {ring : RingOf R} {inverse : R → R} (field : IsField rin
     },
   )
     where
-      both : (cs : List R) → All ring.IsValue cs → row_times ring width cs (b ∷ made) ≡ row_times ring width (row_times ring (length rows) cs (first.0 ∷ rest.0)) rows
+      both : (cs : List R) → All ring.IsValue cs
+          → row_times ring width cs (b ∷ made)
+          ≡ row_times ring width (row_times ring (length rows) cs (first.0 ∷ rest.0)) rows
       both [] v = sym (times-zeros field.is_ring width rows are)
       both (c ∷ cs) v =
           let L = field.is_ring in
@@ -42,7 +47,8 @@ module _ {R : Type 0} {ring : RingOf R} {inverse : R → R} (field : IsField rin
           let q = rest.1.same cs vt in
           (λ i. row_plus ring (p i) (q i)) ∙ sym (times-plus L width _ _ rows (rs.0 ∙ sym rt.0) rs.1 rt.1 are)
 
-  pub coefficients_of : (width : ℕ) (rows made : List (List R)) → All (IsRow ring width) rows → ((b : List R) → Contains made b → IsCombination ring width rows b)
+  pub coefficients_of : (width : ℕ) (rows made : List (List R)) → All (IsRow ring width) rows
+      → ((b : List R) → Contains made b → IsCombination ring width rows b)
       → (coefficients : List (List R)) × AreMadeOf width rows made coefficients
   coefficients_of width rows [] are h = (
     [],
@@ -56,13 +62,15 @@ module _ {R : Type 0} {ring : RingOf R} {inverse : R → R} (field : IsField rin
       nothing : zero_row ring width ≡ row_times ring width (zero_row ring (length rows)) rows
       nothing = sym (times-zeros field.is_ring width rows are)
 
-      from_none : (cs : List R) → All ring.IsValue cs → row_times ring width cs [] ≡ row_times ring width (row_times ring (length rows) cs []) rows
+      from_none : (cs : List R) → All ring.IsValue cs
+          → row_times ring width cs [] ≡ row_times ring width (row_times ring (length rows) cs []) rows
       from_none [] v = nothing
       from_none (c ∷ cs) v = nothing
   coefficients_of width rows (b ∷ made) are h = made-cons width rows b made are (h b (Contains-here b made)) (coefficients_of width rows made are (λ a c. h a (Contains-later b made a c)))
 
   -- Independent rows that are combinations of some rows are at most as many.
-  pub independent-few : (width : ℕ) (rows made : List (List R)) → All (IsRow ring width) rows → ((b : List R) → Contains made b → IsCombination ring width rows b)
+  pub independent-few : (width : ℕ) (rows made : List (List R)) → All (IsRow ring width) rows
+      → ((b : List R) → Contains made b → IsCombination ring width rows b)
       → AreIndependent ring width made → length made ≤ length rows
   independent-few width rows made are h independent = step (nat_lt (length rows) (length made)) refl
     where
@@ -79,7 +87,8 @@ module _ {R : Type 0} {ring : RingOf R} {inverse : R → R} (field : IsField rin
           ∙ ap (zero_row ring) (sym by.1.many)))
 
   -- All bases of a space of rows have one length.
-  pub dimension-unique : (width : ℕ) (V : List R → Type 0) (d e : ℕ) → ((v : List R) → V v → IsRow ring width v) → HasDimension ring width V d → HasDimension ring width V e → d ≡ e
+  pub dimension-unique : (width : ℕ) (V : List R → Type 0) (d e : ℕ) → ((v : List R) → V v → IsRow ring width v)
+      → HasDimension ring width V d → HasDimension ring width V e → d ≡ e
   dimension-unique width V d e rows p q =
       let low = independent-few width q.0 p.0 (each-All (IsRow ring width) q.0 (λ b c. rows b (q.1.members b c))) (λ b c. q.1.spanning b (p.1.members b c)) p.1.independent in
       let high = independent-few width p.0 q.0 (each-All (IsRow ring width) p.0 (λ b c. rows b (p.1.members b c))) (λ b c. p.1.spanning b (q.1.members b c)) q.1.independent in
@@ -89,7 +98,8 @@ module _ {R : Type 0} {ring : RingOf R} {inverse : R → R} (field : IsField rin
       meet a b l m = omega arith
 
   -- Independent members of a space of dimension d are at most d.
-  pub independent-within : (width : ℕ) (V : List R → Type 0) (d : ℕ) (made : List (List R)) → ((v : List R) → V v → IsRow ring width v) → HasDimension ring width V d
+  pub independent-within : (width : ℕ) (V : List R → Type 0) (d : ℕ) (made : List (List R))
+      → ((v : List R) → V v → IsRow ring width v) → HasDimension ring width V d
       → ((b : List R) → Contains made b → V b) → AreIndependent ring width made → length made ≤ d
   independent-within width V d made rows p within independent =
       subst (λ n. length made ≤ n) p.2

@@ -3,11 +3,10 @@ use Rattle.std.proofs.Common.{◌≡◌, ◌↔◌, ℕ, zero, suc, ◌-◌, ◌
 use Rattle.std.proofs.lemmas.Bool.{eq-eqb, ne_eqb}
 use Rattle.std.proofs.lemmas.Option.{slice_get-get_or}
 use Rattle.hp_algebra.specs.Ring.{RingOf, IsRing}
-use Rattle.hp_linear.specs.Rows.{IsRow, entry, row_times}
+use Rattle.hp_algebra.specs.Rows.{IsRow, entry, row_times}
 use Rattle.hp_linear.specs.Spaces.{IsCombination, AreIndependent}
 use Rattle.hp_linear.specs.Matrices.{Matrix, IsRank, IsInRowSpace, IsEchelonForm}
 use Rattle.hp_linear.specs.Echelon.{PivotRow, rows_of}
-use Rattle.hp_linear.proofs.Rows.{down}
 use Rattle.hp_linear.proofs.Combinations.{span-member}
 use Rattle.hp_linear.proofs.Units.{HaveUnitColumns, units-independent, in_span-test}
 
@@ -17,37 +16,41 @@ pivoted [] pivots = []
 pivoted (row ∷ rows) [] = []
 pivoted (row ∷ rows) (c ∷ pivots) = record { column = c - 1; entries = row } ∷ pivoted rows pivots
 
-length-pivoted : {R : Type 0} (rows : List (List R)) (pivots : List ℕ) → length pivots ≡ length rows → length (pivoted rows pivots) ≡ length rows
+length-pivoted : {R : Type 0} (rows : List (List R)) (pivots : List ℕ) → length pivots ≡ length rows
+    → length (pivoted rows pivots) ≡ length rows
 unfolding pivoted
 length-pivoted [] pivots e = refl
 length-pivoted (row ∷ rows) [] e = absurd (omega (arith, e))
-length-pivoted (row ∷ rows) (c ∷ pivots) e = ap (λ n. suc n) (length-pivoted rows pivots (down _ _ e))
+length-pivoted (row ∷ rows) (c ∷ pivots) e = ap (λ n. suc n) (length-pivoted rows pivots (omega (arith, e)))
 
-get_or-pivoted : {R : Type 0} (rows : List (List R)) (pivots : List ℕ) (k : ℕ) (d : PivotRow R) (x : List R) → length pivots ≡ length rows → k < length rows
+get_or-pivoted : {R : Type 0} (rows : List (List R)) (pivots : List ℕ) (k : ℕ) (d : PivotRow R) (x : List R)
+    → length pivots ≡ length rows → k < length rows
     → get_or (pivoted rows pivots) k d ≡ record { column = get_or pivots k 0 - 1; entries = get_or rows k x }
 unfolding pivoted
 get_or-pivoted [] pivots k d x e l = absurd (omega arith)
 get_or-pivoted (row ∷ rows) [] k d x e l = absurd (omega (arith, e))
 get_or-pivoted (row ∷ rows) (c ∷ pivots) zero d x e l = refl
-get_or-pivoted (row ∷ rows) (c ∷ pivots) (suc k) d x e l = get_or-pivoted rows pivots k d x (down _ _ e) (omega arith)
+get_or-pivoted (row ∷ rows) (c ∷ pivots) (suc k) d x e l = get_or-pivoted rows pivots k d x (omega (arith, e)) (omega arith)
 
 module _ {R : Type 0} (ring : RingOf R) where
-  rows-pivoted : (rows : List (List R)) (pivots : List ℕ) → length pivots ≡ length rows → rows_of ring (pivoted rows pivots) ≡ rows
+  rows-pivoted : (rows : List (List R)) (pivots : List ℕ) → length pivots ≡ length rows
+      → rows_of ring (pivoted rows pivots) ≡ rows
   unfolding pivoted
   rows-pivoted [] pivots e = refl
   rows-pivoted (row ∷ rows) [] e = absurd (omega (arith, e))
-  rows-pivoted (row ∷ rows) (c ∷ pivots) e = ap (λ rs. row ∷ rs) (rows-pivoted rows pivots (down _ _ e))
+  rows-pivoted (row ∷ rows) (c ∷ pivots) e = ap (λ rs. row ∷ rs) (rows-pivoted rows pivots (omega (arith, e)))
 
   -- the entries of a row at the pivots
   abbrev pub at_pivots : List ℕ → List R → List R
   at_pivots pivots v = map (λ c. entry ring v (c - 1)) pivots
 
-  at-pivoted : (rows : List (List R)) (pivots : List ℕ) (v : List R) → length pivots ≡ length rows → map (λ p. entry ring v p.column) (pivoted rows pivots) ≡ at_pivots pivots v
+  at-pivoted : (rows : List (List R)) (pivots : List ℕ) (v : List R) → length pivots ≡ length rows
+      → map (λ p. entry ring v p.column) (pivoted rows pivots) ≡ at_pivots pivots v
   unfolding pivoted
   at-pivoted [] [] v e = refl
   at-pivoted [] (c ∷ pivots) v e = absurd (omega (arith, e))
   at-pivoted (row ∷ rows) [] v e = absurd (omega (arith, e))
-  at-pivoted (row ∷ rows) (c ∷ pivots) v e = ap (λ rs. entry ring v (c - 1) ∷ rs) (at-pivoted rows pivots v (down _ _ e))
+  at-pivoted (row ∷ rows) (c ∷ pivots) v e = ap (λ rs. entry ring v (c - 1) ∷ rs) (at-pivoted rows pivots v (omega (arith, e)))
 
 module _ {R : Type 0} {ring : RingOf R} (laws : IsRing ring) (m e : Matrix R) (pivots : List ℕ) (is : IsEchelonForm ring m e pivots) where
   form-units : HaveUnitColumns laws e.cols (pivoted e.rows pivots)
@@ -66,7 +69,9 @@ module _ {R : Type 0} {ring : RingOf R} (laws : IsRing ring) (m e : Matrix R) (p
           let q = is.in_range k 0 (subst (λ n. k < n) (sym is.one_each) l) in
           subst (λ (p : PivotRow R). p.column < e.cols) (sym (get_or-pivoted e.rows pivots k d [] is.one_each l)) (omega (arith, q.0, q.1))
 
-      at : (h k : ℕ) (d : PivotRow R) → h < length e.rows → k < length e.rows → entry ring (get_or (pivoted e.rows pivots) h d).entries (get_or (pivoted e.rows pivots) k d).column ≡ cond (h == k) ring.one ring.zero
+      at : (h k : ℕ) (d : PivotRow R) → h < length e.rows → k < length e.rows
+          → entry ring (get_or (pivoted e.rows pivots) h d).entries (get_or (pivoted e.rows pivots) k d).column
+          ≡ cond (h == k) ring.one ring.zero
       at h k d lh lk =
           (λ i. entry ring (get_or-pivoted e.rows pivots h d [] is.one_each lh i).entries (get_or-pivoted e.rows pivots k d [] is.one_each lk i).column)
           ∙ is.unit k h (get_or pivots k 0) (get_or e.rows h []) (slice_get-get_or e.rows h [] lh) (slice_get-get_or pivots k 0 (subst (λ n. k < n) (sym is.one_each) lk))
@@ -88,7 +93,8 @@ module _ {R : Type 0} {ring : RingOf R} (laws : IsRing ring) (m e : Matrix R) (p
   )
 
   -- A row is in the row space exactly where it is the combination with its entries at the pivots: this is what a reduction tests.
-  pub echelon-member : (v : List R) → IsRow ring m.cols v → IsInRowSpace ring m v ↔ (v ≡ row_times ring m.cols (at_pivots ring pivots v) e.rows)
+  pub echelon-member : (v : List R) → IsRow ring m.cols v
+      → IsInRowSpace ring m v ↔ (v ≡ row_times ring m.cols (at_pivots ring pivots v) e.rows)
   echelon-member v r =
       let kept = pivoted e.rows pivots in
       let rows = rows-pivoted ring e.rows pivots is.one_each in

@@ -6,14 +6,14 @@ use Rattle.std.proofs.lemmas.Bool.{cases_eq, cases_lt, false≢true}
 use Rattle.std.proofs.lemmas.List.{length-map, length-append, length-set, get_or_default, get_or-set_same, get_or-set_other}
 use Rattle.std.proofs.lemmas.List.Elements.{All-head, All-tail, All-set, Contains-get_or}
 use Rattle.hp_algebra.specs.Ring.{RingOf, IsRing, IsField, Numbering, IsNumbering}
-use Rattle.hp_linear.specs.Rows.{IsRow, entry, zero_row, row_scale}
+use Rattle.hp_algebra.specs.Rows.{IsRow, entry, zero_row, row_scale}
 use Rattle.hp_linear.specs.Spaces.{HaveSameSpan, HasDimension}
-use Rattle.hp_linear.specs.Points.{ListsOnce}
+use Rattle.hp_lists.specs.Lists.{ListsOnce}
 use Rattle.hp_linear.specs.Matrices.{Matrix, IsMatrix, IsRank, IsKernelMember}
 use Rattle.hp_linear.specs.Echelon.{PivotRow, IsReduced, IsReductionOf, IsMonic, rows_of, cleared, cleared_row}
-use Rattle.hp_linear.proofs.Members.{Contains-none}
-use Rattle.hp_linear.proofs.Points.{kernel-count}
-use Rattle.hp_linear.proofs.Rows.{zero_row-ext, zeros-row, entry-value, entry-zeros}
+use Rattle.hp_lists.proofs.Members.{Contains-none}
+use Rattle.hp_linear.proofs.PointCounts.{kernel-count}
+use Rattle.hp_algebra.proofs.Rows.{zero_row-ext, zeros-row, entry-value, entry-zeros}
 use Rattle.hp_linear.proofs.Reduction.{DiffersBySpan, cleared-row, differs-not, differs-more, zeros-more, reduced-insert, span-insert, span-nothing, span-read, monic-new, monic-from}
 use Rattle.hp_linear.proofs.Dimension.{rank-unique}
 use Rattle.hp_linear.proofs.Units.{reduced-rank}
@@ -26,13 +26,15 @@ module _ {R : Type 0} {ring : RingOf R} (laws : IsRing ring) where
     pub same : DiffersBySpan laws width kept old row
     pub zeros : (h : ℕ) (q : PivotRow R) → h < k → entry ring row (get_or kept h q).column ≡ ring.zero
 
-  cleared_up_to : (width k : ℕ) (kept : List (PivotRow R)) (old : List R) → IsReduced ring width kept → IsRow ring width old → k ≤ length kept → (row : List R) × IsClearedUpTo width kept old k row
+  cleared_up_to : (width k : ℕ) (kept : List (PivotRow R)) (old : List R) → IsReduced ring width kept
+      → IsRow ring width old → k ≤ length kept → (row : List R) × IsClearedUpTo width kept old k row
   cleared_up_to width zero kept old is r low = (old, record { is_row = r; same = differs-not laws width kept old is r; zeros = λ h q l. absurd (omega arith) })
   cleared_up_to width (suc k) kept old is r low =
       let before = cleared_up_to width k kept old is r (omega arith) in
       step before kept refl
     where
-      step : (row : List R) × IsClearedUpTo width kept old k row → (others : List (PivotRow R)) → others ≡ kept → (row : List R) × IsClearedUpTo width kept old (suc k) row
+      step : (row : List R) × IsClearedUpTo width kept old k row → (others : List (PivotRow R)) → others ≡ kept
+          → (row : List R) × IsClearedUpTo width kept old (suc k) row
       step before [] e = absurd (omega (arith, low, ap (λ (xs : List (PivotRow R)). length xs) e))
       step before (d ∷ others) e =
           let p : PivotRow R = get_or kept k d in
@@ -47,7 +49,8 @@ module _ {R : Type 0} {ring : RingOf R} (laws : IsRing ring) where
             },
           )
 
-  pub reduction : (width : ℕ) (kept : List (PivotRow R)) (old : List R) → IsReduced ring width kept → IsRow ring width old → (row : List R) × IsReductionOf ring width kept old row
+  pub reduction : (width : ℕ) (kept : List (PivotRow R)) (old : List R) → IsReduced ring width kept
+      → IsRow ring width old → (row : List R) × IsReductionOf ring width kept old row
   reduction width kept old is r =
       let w = cleared_up_to width (length kept) kept old is r (omega arith) in (
         w.0,
@@ -62,14 +65,16 @@ module _ {R : Type 0} {ring : RingOf R} (laws : IsRing ring) where
   abbrev IsFirstEntry : ℕ → List R → ℕ → Type 0
   IsFirstEntry width row j = (j < width) × (entry ring row j ≢ ring.zero) × ((i : ℕ) → i < j → entry ring row i ≡ ring.zero)
 
-  first_entry : (width : ℕ) (row : List R) → IsRow ring width row → (k : ℕ) → k ≤ width → ((j : ℕ) × IsFirstEntry width row j) ⊎ ((i : ℕ) → i < k → entry ring row i ≡ ring.zero)
+  first_entry : (width : ℕ) (row : List R) → IsRow ring width row → (k : ℕ) → k ≤ width
+      → ((j : ℕ) × IsFirstEntry width row j) ⊎ ((i : ℕ) → i < k → entry ring row i ≡ ring.zero)
   first_entry width row r zero low = inr (λ i l. absurd (omega arith))
   first_entry width row r (suc k) low = elim (first_entry width row r k (omega arith)) [ inl w ↦ inl w | inr zeros ↦ step zeros (ring.is_zero (entry ring row k)) refl ]
     where
       test : (ring.is_zero (entry ring row k) ≡ true) ↔ (entry ring row k ≡ ring.zero)
       test = laws.zero_test _ (entry-value laws width row k (omega arith) r)
 
-      step : ((i : ℕ) → i < k → entry ring row i ≡ ring.zero) → (b : Bool) → ring.is_zero (entry ring row k) ≡ b → ((j : ℕ) × IsFirstEntry width row j) ⊎ ((i : ℕ) → i < suc k → entry ring row i ≡ ring.zero)
+      step : ((i : ℕ) → i < k → entry ring row i ≡ ring.zero) → (b : Bool) → ring.is_zero (entry ring row k) ≡ b
+          → ((j : ℕ) × IsFirstEntry width row j) ⊎ ((i : ℕ) → i < suc k → entry ring row i ≡ ring.zero)
       step zeros true e = inr (λ i l. elim (cases_eq i k) [ inl q ↦ ap (entry ring row) q ∙ test.0 e | inr ne ↦ zeros i (omega arith) ])
       step zeros false e = inl (k, (omega arith, (λ z. false≢true (sym e ∙ test.1 z)), zeros))
 
@@ -83,13 +88,15 @@ module _ {R : Type 0} {ring : RingOf R} (laws : IsRing ring) where
     | inr h ↦ (0, omega arith, (λ k p l. absurd (omega arith)), (λ p l. h))
   ]
     where
-      earlier : x.column < column → (at : ℕ) → ((k : ℕ) (p : PivotRow R) → k < at → (get_or xs k p).column < column) → (k : ℕ) (p : PivotRow R) → k < suc at → (get_or (x ∷ xs) k p).column < column
+      earlier : x.column < column → (at : ℕ) → ((k : ℕ) (p : PivotRow R) → k < at → (get_or xs k p).column < column)
+          → (k : ℕ) (p : PivotRow R) → k < suc at → (get_or (x ∷ xs) k p).column < column
       earlier l at h zero p m = l
       earlier l at h (suc k) p m = h k p (omega arith)
 
   -- ---- solutions
 
-  pub free_up_to : (width free : ℕ) (kept : List (PivotRow R)) → IsReduced ring width kept → free < width → ((p : PivotRow R) → Contains kept p → p.column ≢ free) → (k : ℕ) → k ≤ length kept
+  pub free_up_to : (width free : ℕ) (kept : List (PivotRow R)) → IsReduced ring width kept → free < width
+      → ((p : PivotRow R) → Contains kept p → p.column ≢ free) → (k : ℕ) → k ≤ length kept
       → (c : List R) × IsFreePart laws width kept free k c
   free_up_to width free kept is l apart zero low = (
     slice_set (zero_row ring width) free ring.one,
@@ -102,7 +109,8 @@ module _ {R : Type 0} {ring : RingOf R} (laws : IsRing ring) where
   )
   free_up_to width free kept is l apart (suc k) low = step (free_up_to width free kept is l apart k (omega arith)) kept refl
     where
-      step : (c : List R) × IsFreePart laws width kept free k c → (others : List (PivotRow R)) → others ≡ kept → (c : List R) × IsFreePart laws width kept free (suc k) c
+      step : (c : List R) × IsFreePart laws width kept free k c → (others : List (PivotRow R)) → others ≡ kept
+          → (c : List R) × IsFreePart laws width kept free (suc k) c
       step before [] e = absurd (omega (arith, low, ap (λ (xs : List (PivotRow R)). length xs) e))
       step before (d ∷ others) e =
           let p : PivotRow R = get_or kept k d in
@@ -117,16 +125,19 @@ module _ {R : Type 0} {ring : RingOf R} (laws : IsRing ring) where
           )
 
   solutions_up_to : (width : ℕ) (kept : List (PivotRow R)) → IsReduced ring width kept → (k : ℕ) → k ≤ width
-      → (made : List (PivotRow R)) × AreFreeSolutions laws width kept k made × (length made + pivots_below laws k kept ≡ k)
+      → (made : List (PivotRow R)) × AreFreeSolutions laws width kept k made
+      × (length made + pivots_below laws k kept ≡ k)
   solutions_up_to width kept is zero low = ([], solutions-none laws width kept, ap (λ n. 0 + n) (pivots-start laws kept))
   solutions_up_to width kept is (suc k) low = step (solutions_up_to width kept is k (omega arith)) (find_pivot laws kept k)
     where
       next : k + 1 ≡ suc k
       next = omega arith
 
-      step : (made : List (PivotRow R)) × AreFreeSolutions laws width kept k made × (length made + pivots_below laws k kept ≡ k)
+      step : (made : List (PivotRow R)) × AreFreeSolutions laws width kept k made
+          × (length made + pivots_below laws k kept ≡ k)
           → ((p : PivotRow R) × Contains kept p × (p.column ≡ k)) ⊎ ((p : PivotRow R) → Contains kept p → p.column ≢ k)
-          → (made : List (PivotRow R)) × AreFreeSolutions laws width kept (suc k) made × (length made + pivots_below laws (suc k) kept ≡ suc k)
+          → (made : List (PivotRow R)) × AreFreeSolutions laws width kept (suc k) made
+          × (length made + pivots_below laws (suc k) kept ≡ suc k)
       step (made, all, count) (inl w) =
           let one : pivots_below laws (suc k) kept ≡ suc (pivots_below laws k kept) = subst (λ n. pivots_below laws n kept ≡ suc (pivots_below laws k kept)) next (pivots-one laws k kept w.0 (columns-rise laws width kept is) w.1 w.2) in
           (made, subst (λ n. AreFreeSolutions laws width kept n made) next (solutions-same laws width k kept made w all), omega (arith, count, one))
@@ -142,14 +153,18 @@ module _ {R : Type 0} {ring : RingOf R} (laws : IsRing ring) where
 
 module _ {R : Type 0} {ring : RingOf R} {inverse : R → R} (field : IsField ring inverse) where
   -- a row more
-  reduced-more : (width : ℕ) (kept : List (PivotRow R)) (old : List R) → IsReduced ring width kept → IsRow ring width old
-      → (more : List (PivotRow R)) × IsReduced ring width more × HaveSameSpan ring width (old ∷ rows_of ring kept) (rows_of ring more)
+  reduced-more : (width : ℕ) (kept : List (PivotRow R)) (old : List R) → IsReduced ring width kept
+      → IsRow ring width old
+      → (more : List (PivotRow R)) × IsReduced ring width more
+      × HaveSameSpan ring width (old ∷ rows_of ring kept) (rows_of ring more)
   reduced-more width kept old is r = step (reduction field.is_ring width kept old is r)
     where
       L : IsRing ring
       L = field.is_ring
 
-      step : (row : List R) × IsReductionOf ring width kept old row → (more : List (PivotRow R)) × IsReduced ring width more × HaveSameSpan ring width (old ∷ rows_of ring kept) (rows_of ring more)
+      step : (row : List R) × IsReductionOf ring width kept old row
+          → (more : List (PivotRow R)) × IsReduced ring width more
+          × HaveSameSpan ring width (old ∷ rows_of ring kept) (rows_of ring more)
       step (row, of) = elim (first_entry L width row of.is_row width (omega arith)) [
         | inr zeros ↦ (kept, is, span-nothing L width kept old is r (subst (DiffersBySpan L width kept old) (zero_row-ext L width row of.is_row.0 zeros) of.same))
         | inl w ↦ (
@@ -163,7 +178,8 @@ module _ {R : Type 0} {ring : RingOf R} {inverse : R → R} (field : IsField rin
       ]
 
   -- Rows have a reduced form with the same span.
-  pub reduced-exists : (width : ℕ) (rows : List (List R)) → All (IsRow ring width) rows → (kept : List (PivotRow R)) × IsReduced ring width kept × HaveSameSpan ring width rows (rows_of ring kept)
+  pub reduced-exists : (width : ℕ) (rows : List (List R)) → All (IsRow ring width) rows
+      → (kept : List (PivotRow R)) × IsReduced ring width kept × HaveSameSpan ring width rows (rows_of ring kept)
   reduced-exists width [] are = ([], record { each = λ p c. absurd (Contains-none p c); ordered = tt }, λ v. ((λ c. c), (λ c. c)))
   reduced-exists width (row ∷ rows) are =
       let r = All-head (IsRow ring width) row rows are in
@@ -189,7 +205,8 @@ module _ {R : Type 0} {ring : RingOf R} {inverse : R → R} (field : IsField rin
         (rows_of ring s.0, kernel-basis L field.commutes m w.0 s.0 are w.1 w.2 s.1, omega (arith, rank, pivots, long, s.2))
 
     -- The kernel over a field of q elements has q^(columns - rank) points, counted by any list that has each once.
-    pub kernel-points : (numbers : Numbering R) → IsNumbering ring numbers → (r : ℕ) (points : List (List R)) → IsRank ring m r → ListsOnce (IsKernelMember ring m) points → length points ≡ numbers.order ^ (m.cols - r)
+    pub kernel-points : (numbers : Numbering R) → IsNumbering ring numbers → (r : ℕ) (points : List (List R))
+        → IsRank ring m r → ListsOnce (IsKernelMember ring m) points → length points ≡ numbers.order ^ (m.cols - r)
     kernel-points numbers numbered r points is lists =
         let basis = kernel-dimension r is in
-        kernel-count field numbered m basis.0 points are basis.1 lists ∙ ap (λ n. numbers.order ^ n) basis.2
+        kernel-count (record { ring = ring; inverse = inverse; numbers = numbers; field = field; num = numbered }) m basis.0 points are basis.1 lists ∙ ap (λ n. numbers.order ^ n) basis.2

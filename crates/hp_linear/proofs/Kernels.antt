@@ -6,17 +6,17 @@ use Rattle.std.proofs.lemmas.Bool.{cases_eq, cases_lt, ltb-true, lt-ltb, le-ltb}
 use Rattle.std.proofs.lemmas.List.{length-map, get_or-map, get_or_default, get_or-set_same, get_or-set_other, length-set}
 use Rattle.std.proofs.lemmas.List.Elements.{All-set, Contains-get_or, Contains-append_left, Contains-append_right, Contains-append_cases}
 use Rattle.hp_algebra.specs.Ring.{RingOf, IsRing, IsCommutative, dot_of}
-use Rattle.hp_algebra.proofs.Rings.{mul_zero, zero_mul}
-use Rattle.hp_linear.specs.Rows.{IsRow, entry, zero_row, row_plus, row_scale, row_times}
+use Rattle.hp_algebra.proofs.Rings.{mul_zero, zero_mul, neg_neg}
+use Rattle.hp_algebra.specs.Rows.{IsRow, entry, zero_row, row_plus, row_scale, row_times}
 use Rattle.hp_linear.specs.Spaces.{AreCoefficients, IsCombination, HaveSameSpan, IsBasisOf}
 use Rattle.hp_linear.specs.Matrices.{Matrix, IsMatrix, IsKernelMember}
 use Rattle.hp_linear.specs.Echelon.{PivotRow, IsReduced, IsLeftOf, IsFreeSolution, rows_of}
-use Rattle.hp_algebra.proofs.Rising.{Ordered}
-use Rattle.hp_linear.proofs.Members.{Contains-here, Contains-later, Contains-cases, Contains-none, Contains-map, map-Contains, each-All}
-use Rattle.hp_linear.proofs.Ordered.{ordered-at, ordered-push}
-use Rattle.hp_linear.proofs.Rows.{scale-row, plus-row, entry-value, entry-plus, entry-scale, entry-zeros, zero_row-ext, zeros-plus, plus-undo, scale-one}
-use Rattle.hp_linear.proofs.Combinations.{times-row, span-member, span-dot, dot-plus, dot-scale, dot-combination}
-use Rattle.hp_linear.proofs.Dots.{dot-single, dot-pair, dot-comm, double_neg, map-zeros}
+use Rattle.hp_lists.specs.Lists.{Ordered}
+use Rattle.hp_lists.proofs.Members.{Contains-here, Contains-later, Contains-cases, Contains-none, Contains-map, map-Contains, each-All}
+use Rattle.hp_lists.proofs.Ordered.{Ordered-at, Ordered-push}
+use Rattle.hp_algebra.proofs.Rows.{scale-row, plus-row, entry-value, entry-plus, entry-scale, entry-zeros, zero_row-ext, zeros-plus, plus-undo, scale-one}
+use Rattle.hp_linear.proofs.Combinations.{times-row, span-member, span-dot, dot-combination}
+use Rattle.hp_algebra.proofs.Dots.{dot-plus, dot-scale, dot-single, dot-pair, dot-comm, map-zeros}
 use Rattle.hp_linear.proofs.Reduction.{reduced-rows}
 use Rattle.hp_linear.proofs.Units.{HaveUnitColumns, reduced-units, unit-coefficient, units-independent, at_units, at_units-row}
 
@@ -27,11 +27,15 @@ module _ {R : Type 0} {ring : RingOf R} (laws : IsRing ring) where
   pub record IsFreePart (width : ℕ) (kept : List (PivotRow R)) (free k : ℕ) (c : List R) : Type 0 where
     pub is_row : IsRow ring width c
     pub one : entry ring c free ≡ ring.one
-    pub at_pivots : (h : ℕ) (d : PivotRow R) → h < k → entry ring c (get_or kept h d).column ≡ ring.neg (entry ring (get_or kept h d).entries free)
-    pub elsewhere : (j : ℕ) → j < width → j ≢ free → ((h : ℕ) (d : PivotRow R) → h < k → (get_or kept h d).column ≢ j) → entry ring c j ≡ ring.zero
+    pub at_pivots : (h : ℕ) (d : PivotRow R) → h < k
+        → entry ring c (get_or kept h d).column ≡ ring.neg (entry ring (get_or kept h d).entries free)
+    pub elsewhere : (j : ℕ) → j < width → j ≢ free → ((h : ℕ) (d : PivotRow R) → h < k → (get_or kept h d).column ≢ j)
+        → entry ring c j ≡ ring.zero
 
-  pub free-more : (width free k : ℕ) (kept : List (PivotRow R)) (c : List R) (p : PivotRow R) (v : R) → IsReduced ring width kept → k < length kept → p ≡ get_or kept k p → p.column ≢ free
-      → ring.IsValue v → v ≡ ring.neg (entry ring p.entries free) → IsFreePart width kept free k c → IsFreePart width kept free (k + 1) (slice_set c p.column v)
+  pub free-more : (width free k : ℕ) (kept : List (PivotRow R)) (c : List R) (p : PivotRow R) (v : R)
+      → IsReduced ring width kept → k < length kept → p ≡ get_or kept k p → p.column ≢ free
+      → ring.IsValue v → v ≡ ring.neg (entry ring p.entries free) → IsFreePart width kept free k c
+      → IsFreePart width kept free (k + 1) (slice_set c p.column v)
   free-more width free k kept c p v is l at apart vv e before = record {
     is_row = (length-set c p.column v ∙ before.is_row.0, All-set ring.IsValue c p.column v vv before.is_row.1);
     one = get_or-set_other c p.column free v ring.zero (λ q. apart (sym q)) ∙ before.one;
@@ -45,16 +49,19 @@ module _ {R : Type 0} {ring : RingOf R} (laws : IsRing ring) where
       inside : p.column < length c
       inside = subst (λ n. p.column < n) (sym before.is_row.0) (is.each p (subst (Contains kept) (sym at) (Contains-get_or kept k p l))).inside
 
-      pivots : (h : ℕ) (d : PivotRow R) → h < k + 1 → (h ≡ k) ⊎ (h ≢ k) → entry ring (slice_set c p.column v) (get_or kept h d).column ≡ ring.neg (entry ring (get_or kept h d).entries free)
+      pivots : (h : ℕ) (d : PivotRow R) → h < k + 1 → (h ≡ k) ⊎ (h ≢ k)
+          → entry ring (slice_set c p.column v) (get_or kept h d).column
+          ≡ ring.neg (entry ring (get_or kept h d).entries free)
       pivots h d m (inl q) =
           subst (λ (s : PivotRow R). entry ring (slice_set c p.column v) s.column ≡ ring.neg (entry ring s.entries free)) (here d ∙ ap (λ n. get_or kept n d) (sym q))
           (get_or-set_same c p.column v ring.zero inside ∙ e)
       pivots h d m (inr ne) =
-          let left = ordered-at (IsLeftOf ring) kept h k d is.ordered (omega arith) l in
+          let left = Ordered-at (IsLeftOf ring) kept h k d is.ordered (omega arith) l in
           let further : (get_or kept h d).column < p.column = subst (λ (s : PivotRow R). (get_or kept h d).column < s.column) (sym (here d)) left.left in
           get_or-set_other c p.column (get_or kept h d).column v ring.zero (λ q. absurd (omega (arith, q, further))) ∙ before.at_pivots h d (omega arith)
 
-  pub free-last : (width free : ℕ) (kept : List (PivotRow R)) (c : List R) → IsFreePart width kept free (length kept) c → IsFreeSolution ring width kept free c
+  pub free-last : (width free : ℕ) (kept : List (PivotRow R)) (c : List R) → IsFreePart width kept free (length kept) c
+      → IsFreeSolution ring width kept free c
   free-last width free kept c part = record {
     is_row = part.is_row;
     one = part.one;
@@ -65,18 +72,22 @@ module _ {R : Type 0} {ring : RingOf R} (laws : IsRing ring) where
   -- ---- it is a solution
 
   -- either a row has its pivot in the column or none has
-  pub find_pivot : (kept : List (PivotRow R)) (j : ℕ) → ((p : PivotRow R) × Contains kept p × (p.column ≡ j)) ⊎ ((p : PivotRow R) → Contains kept p → p.column ≢ j)
+  pub find_pivot : (kept : List (PivotRow R)) (j : ℕ)
+      → ((p : PivotRow R) × Contains kept p × (p.column ≡ j)) ⊎ ((p : PivotRow R) → Contains kept p → p.column ≢ j)
   find_pivot [] j = inr (λ p c. absurd (Contains-none p c))
   find_pivot (q ∷ kept) j = step (cases_eq q.column j) (find_pivot kept j)
     where
-      step : (q.column ≡ j) ⊎ (q.column ≢ j) → ((p : PivotRow R) × Contains kept p × (p.column ≡ j)) ⊎ ((p : PivotRow R) → Contains kept p → p.column ≢ j)
-          → ((p : PivotRow R) × Contains (q ∷ kept) p × (p.column ≡ j)) ⊎ ((p : PivotRow R) → Contains (q ∷ kept) p → p.column ≢ j)
+      step : (q.column ≡ j) ⊎ (q.column ≢ j)
+          → ((p : PivotRow R) × Contains kept p × (p.column ≡ j)) ⊎ ((p : PivotRow R) → Contains kept p → p.column ≢ j)
+          → ((p : PivotRow R) × Contains (q ∷ kept) p × (p.column ≡ j))
+          ⊎ ((p : PivotRow R) → Contains (q ∷ kept) p → p.column ≢ j)
       step (inl e) r = inl (q, Contains-here q kept, e)
       step (inr ne) (inl w) = inl (w.0, Contains-later q kept w.0 w.1, w.2)
       step (inr ne) (inr none) = inr (λ p c. elim (Contains-cases q kept p c) [ inl e ↦ subst (λ (s : PivotRow R). s.column ≢ j) e ne | inr d ↦ none p d ])
 
   -- a pivot row is zero at the pivot of another
-  pub zero-at : (width : ℕ) (kept : List (PivotRow R)) (p q : PivotRow R) → IsReduced ring width kept → Contains kept p → Contains kept q → p.column ≢ q.column → entry ring p.entries q.column ≡ ring.zero
+  pub zero-at : (width : ℕ) (kept : List (PivotRow R)) (p q : PivotRow R) → IsReduced ring width kept → Contains kept p
+      → Contains kept q → p.column ≢ q.column → entry ring p.entries q.column ≡ ring.zero
   zero-at width kept p q is (h, lh, eh) (k, lk, ek) ne =
       let u = reduced-units laws width kept is in
       let ep : get_or kept h p ≡ p = eh in
@@ -84,7 +95,8 @@ module _ {R : Type 0} {ring : RingOf R} (laws : IsRing ring) where
       let apart : h ≢ k = λ (e : h ≡ k). ne (ap (λ (s : PivotRow R). s.column) (sym ep ∙ ap (λ n. get_or kept n p) e ∙ eq)) in
       sym (λ i. entry ring (ep i).entries (eq i).column) ∙ u.others h k p lh lk apart
 
-  pub free-solves : (width free : ℕ) (kept : List (PivotRow R)) (c : List R) (p : PivotRow R) → IsReduced ring width kept → free < width → ((q : PivotRow R) → Contains kept q → q.column ≢ free)
+  pub free-solves : (width free : ℕ) (kept : List (PivotRow R)) (c : List R) (p : PivotRow R)
+      → IsReduced ring width kept → free < width → ((q : PivotRow R) → Contains kept q → q.column ≢ free)
       → IsFreeSolution ring width kept free c → Contains kept p → dot_of ring p.entries c ≡ ring.zero
   free-solves width free kept c p is inside apart free_is in_kept =
       let ip = is.each p in_kept in
@@ -94,7 +106,8 @@ module _ {R : Type 0} {ring : RingOf R} (laws : IsRing ring) where
       ∙ (λ i. ring.add (ring.mul (entry ring p.entries free) (free_is.one i)) (ring.mul (ip.one i) (free_is.at_pivots p in_kept i)))
       ∙ (λ i. ring.add (laws.mul_one _ v i) (laws.one_mul _ vn i)) ∙ laws.add_neg _ v
     where
-      vanish : (j : ℕ) → j < width → j ≢ free → j ≢ p.column → ((q : PivotRow R) × Contains kept q × (q.column ≡ j)) ⊎ ((q : PivotRow R) → Contains kept q → q.column ≢ j)
+      vanish : (j : ℕ) → j < width → j ≢ free → j ≢ p.column
+          → ((q : PivotRow R) × Contains kept q × (q.column ≡ j)) ⊎ ((q : PivotRow R) → Contains kept q → q.column ≢ j)
           → ring.mul (entry ring p.entries j) (entry ring c j) ≡ ring.zero
       vanish j l ne np (inl w) =
           ap (λ s. ring.mul s (entry ring c j)) (ap (entry ring p.entries) (sym w.2) ∙ zero-at width kept p w.0 is in_kept w.1 (λ e. np (sym (e ∙ w.2))))
@@ -109,10 +122,13 @@ module _ {R : Type 0} {ring : RingOf R} (laws : IsRing ring) where
     pub free : (q : PivotRow R) → Contains made q → (p : PivotRow R) → Contains kept p → p.column ≢ q.column
     pub below : (q : PivotRow R) → Contains made q → q.column < k
     pub ordered : Ordered (λ p q. p.column < q.column) made
-    pub complete : (j : ℕ) → j < k → ((p : PivotRow R) → Contains kept p → p.column ≢ j) → (q : PivotRow R) × Contains made q × (q.column ≡ j)
+    pub complete : (j : ℕ) → j < k → ((p : PivotRow R) → Contains kept p → p.column ≢ j)
+        → (q : PivotRow R) × Contains made q × (q.column ≡ j)
 
   -- nothing more at a column with a pivot
-  pub solutions-same : (width k : ℕ) (kept made : List (PivotRow R)) → (p : PivotRow R) × Contains kept p × (p.column ≡ k) → AreFreeSolutions width kept k made → AreFreeSolutions width kept (k + 1) made
+  pub solutions-same : (width k : ℕ) (kept made : List (PivotRow R))
+      → (p : PivotRow R) × Contains kept p × (p.column ≡ k) → AreFreeSolutions width kept k made
+      → AreFreeSolutions width kept (k + 1) made
   solutions-same width k kept made w all = record {
     each = all.each;
     free = all.free;
@@ -121,32 +137,38 @@ module _ {R : Type 0} {ring : RingOf R} (laws : IsRing ring) where
     complete = λ j l none. at j l none (cases_eq j k);
   }
     where
-      at : (j : ℕ) → j < k + 1 → ((p : PivotRow R) → Contains kept p → p.column ≢ j) → (j ≡ k) ⊎ (j ≢ k) → (q : PivotRow R) × Contains made q × (q.column ≡ j)
+      at : (j : ℕ) → j < k + 1 → ((p : PivotRow R) → Contains kept p → p.column ≢ j) → (j ≡ k) ⊎ (j ≢ k)
+          → (q : PivotRow R) × Contains made q × (q.column ≡ j)
       at j l none (inl e) = absurd (none w.0 w.1 (w.2 ∙ sym e))
       at j l none (inr ne) = all.complete j (omega arith) none
 
   -- one more at a column without
-  pub solutions-more : (width k : ℕ) (kept made : List (PivotRow R)) (c : List R) → ((p : PivotRow R) → Contains kept p → p.column ≢ k) → IsFreeSolution ring width kept k c
-      → AreFreeSolutions width kept k made → AreFreeSolutions width kept (k + 1) (made ++ record { column = k; entries = c } ∷ [])
+  pub solutions-more : (width k : ℕ) (kept made : List (PivotRow R)) (c : List R)
+      → ((p : PivotRow R) → Contains kept p → p.column ≢ k) → IsFreeSolution ring width kept k c
+      → AreFreeSolutions width kept k made
+      → AreFreeSolutions width kept (k + 1) (made ++ record { column = k; entries = c } ∷ [])
   solutions-more width k kept made c apart is all = record {
     each = λ q i. each q (cases q i);
     free = λ q i. free q (cases q i);
     below = λ q i. below q (cases q i);
-    ordered = ordered-push (λ (p q : PivotRow R). p.column < q.column) made new all.ordered (λ q i. all.below q i);
+    ordered = Ordered-push (λ (p q : PivotRow R). p.column < q.column) made new all.ordered (λ q i. all.below q i);
     complete = λ j l none. at j l none (cases_eq j k);
   }
     where
       new : PivotRow R
       new = record { column = k; entries = c }
 
-      cases : (q : PivotRow R) → Contains (made ++ record { column = k; entries = c } ∷ []) q → Contains made q ⊎ (record { column = k; entries = c } ≡ q)
+      cases : (q : PivotRow R) → Contains (made ++ record { column = k; entries = c } ∷ []) q
+          → Contains made q ⊎ (record { column = k; entries = c } ≡ q)
       cases q i = elim (Contains-append_cases made (new ∷ []) q i) [ inl m ↦ inl m | inr n ↦ elim (Contains-cases new [] q n) [ inl e ↦ inr e | inr d ↦ absurd (Contains-none q d) ] ]
 
-      each : (q : PivotRow R) → Contains made q ⊎ (record { column = k; entries = c } ≡ q) → IsFreeSolution ring width kept q.column q.entries
+      each : (q : PivotRow R) → Contains made q ⊎ (record { column = k; entries = c } ≡ q)
+          → IsFreeSolution ring width kept q.column q.entries
       each q (inl m) = all.each q m
       each q (inr e) = subst (λ (s : PivotRow R). IsFreeSolution ring width kept s.column s.entries) e is
 
-      free : (q : PivotRow R) → Contains made q ⊎ (record { column = k; entries = c } ≡ q) → (p : PivotRow R) → Contains kept p → p.column ≢ q.column
+      free : (q : PivotRow R) → Contains made q ⊎ (record { column = k; entries = c } ≡ q) → (p : PivotRow R)
+          → Contains kept p → p.column ≢ q.column
       free q (inl m) = all.free q m
       free q (inr e) = subst (λ (s : PivotRow R). (p : PivotRow R) → Contains kept p → p.column ≢ s.column) e apart
 
@@ -154,7 +176,8 @@ module _ {R : Type 0} {ring : RingOf R} (laws : IsRing ring) where
       below q (inl m) = let h = all.below q m in omega arith
       below q (inr e) = subst (λ (s : PivotRow R). s.column < k + 1) e (omega arith)
 
-      at : (j : ℕ) → j < k + 1 → ((p : PivotRow R) → Contains kept p → p.column ≢ j) → (j ≡ k) ⊎ (j ≢ k) → (q : PivotRow R) × Contains (made ++ record { column = k; entries = c } ∷ []) q × (q.column ≡ j)
+      at : (j : ℕ) → j < k + 1 → ((p : PivotRow R) → Contains kept p → p.column ≢ j) → (j ≡ k) ⊎ (j ≢ k)
+          → (q : PivotRow R) × Contains (made ++ record { column = k; entries = c } ∷ []) q × (q.column ≡ j)
       at j l none (inl e) = (new, Contains-append_right made (new ∷ []) new (Contains-here new []), sym e)
       at j l none (inr ne) = let w = all.complete j (omega arith) none in (w.0, Contains-append_left made (new ∷ []) w.0 w.1, w.2)
 
@@ -173,7 +196,8 @@ module _ {R : Type 0} {ring : RingOf R} (laws : IsRing ring) where
   pivots_below k [] = 0
   pivots_below k (p ∷ kept) = cond (nat_lt p.column k) 1 0 + pivots_below k kept
 
-  pub pivots-none : (k : ℕ) (kept : List (PivotRow R)) → ((p : PivotRow R) → Contains kept p → p.column ≢ k) → pivots_below (k + 1) kept ≡ pivots_below k kept
+  pub pivots-none : (k : ℕ) (kept : List (PivotRow R)) → ((p : PivotRow R) → Contains kept p → p.column ≢ k)
+      → pivots_below (k + 1) kept ≡ pivots_below k kept
   unfolding pivots_below
   pivots-none k [] none = refl
   pivots-none k (p ∷ kept) none =
@@ -188,7 +212,8 @@ module _ {R : Type 0} {ring : RingOf R} (laws : IsRing ring) where
       more : (a k : ℕ) → a < k → a < k + 1
       more a k l = omega arith
 
-  pub pivots-one : (k : ℕ) (kept : List (PivotRow R)) (p : PivotRow R) → Ordered (λ p q. p.column < q.column) kept → Contains kept p → p.column ≡ k → pivots_below (k + 1) kept ≡ suc (pivots_below k kept)
+  pub pivots-one : (k : ℕ) (kept : List (PivotRow R)) (p : PivotRow R) → Ordered (λ p q. p.column < q.column) kept
+      → Contains kept p → p.column ≡ k → pivots_below (k + 1) kept ≡ suc (pivots_below k kept)
   unfolding pivots_below
   pivots-one k [] p o c e = absurd (Contains-none p c)
   pivots-one k (q ∷ kept) p o c e = step (Contains-cases q kept p c) (pivots-one k kept p o.1)
@@ -199,7 +224,9 @@ module _ {R : Type 0} {ring : RingOf R} (laws : IsRing ring) where
       later : (n : ℕ) → 1 + suc n ≡ suc (1 + n)
       later n = omega arith
 
-      step : (q ≡ p) ⊎ Contains kept p → (Contains kept p → p.column ≡ k → pivots_below (k + 1) kept ≡ suc (pivots_below k kept)) → pivots_below (k + 1) (q ∷ kept) ≡ suc (pivots_below k (q ∷ kept))
+      step : (q ≡ p) ⊎ Contains kept p
+          → (Contains kept p → p.column ≡ k → pivots_below (k + 1) kept ≡ suc (pivots_below k kept))
+          → pivots_below (k + 1) (q ∷ kept) ≡ suc (pivots_below k (q ∷ kept))
       step (inl same) ih =
           let at : q.column ≡ k = ap (λ (s : PivotRow R). s.column) same ∙ e in
           let r = pivots-none k kept (λ s d f. absurd (omega (arith, at, f, o.0 s d))) in
@@ -213,7 +240,8 @@ module _ {R : Type 0} {ring : RingOf R} (laws : IsRing ring) where
           let r = ih d e in
           (λ i. cond (t i) 1 0 + r i) ∙ later (pivots_below k kept) ∙ sym (ap (λ b. suc (cond b 1 0 + pivots_below k kept)) u)
 
-  pub pivots-all : (width : ℕ) (kept : List (PivotRow R)) → ((p : PivotRow R) → Contains kept p → p.column < width) → pivots_below width kept ≡ length kept
+  pub pivots-all : (width : ℕ) (kept : List (PivotRow R)) → ((p : PivotRow R) → Contains kept p → p.column < width)
+      → pivots_below width kept ≡ length kept
   unfolding pivots_below
   pivots-all width [] h = refl
   pivots-all width (p ∷ kept) h =
@@ -235,15 +263,18 @@ module _ {R : Type 0} {ring : RingOf R} (laws : IsRing ring) where
       none : 0 + 0 ≡ 0
       none = omega arith
 
-  pub columns-rise : (width : ℕ) (kept : List (PivotRow R)) → IsReduced ring width kept → Ordered (λ p q. p.column < q.column) kept
+  pub columns-rise : (width : ℕ) (kept : List (PivotRow R)) → IsReduced ring width kept
+      → Ordered (λ p q. p.column < q.column) kept
   columns-rise width kept is = weaker kept is.ordered
     where
-      weaker : (xs : List (PivotRow R)) → Ordered (IsLeftOf ring) xs → Ordered (λ (p q : PivotRow R). p.column < q.column) xs
+      weaker : (xs : List (PivotRow R)) → Ordered (IsLeftOf ring) xs
+          → Ordered (λ (p q : PivotRow R). p.column < q.column) xs
       weaker [] o = tt
       weaker (x ∷ xs) o = ((λ y c. (o.0 y c).left), weaker xs o.1)
 
 module _ {R : Type 0} {ring : RingOf R} (laws : IsRing ring) where
-  made-units : (width : ℕ) (kept made : List (PivotRow R)) → IsReduced ring width kept → AreFreeSolutions laws width kept width made → HaveUnitColumns laws width made
+  made-units : (width : ℕ) (kept made : List (PivotRow R)) → IsReduced ring width kept
+      → AreFreeSolutions laws width kept width made → HaveUnitColumns laws width made
   made-units width kept made is all = record {
     are = each-All (IsRow ring width) (rows_of ring made) (λ b c. (let w = map-Contains (λ (p : PivotRow R). p.entries) made b c in subst (IsRow ring width) w.2 (all.each w.0 w.1).is_row));
     inside = λ k d l. all.below _ (Contains-get_or made k d l);
@@ -252,15 +283,17 @@ module _ {R : Type 0} {ring : RingOf R} (laws : IsRing ring) where
   }
     where
       rises : (h k : ℕ) (d : PivotRow R) → h < k → k < length made → (get_or made h d).column < (get_or made k d).column
-      rises h k d l m = ordered-at (λ (p q : PivotRow R). p.column < q.column) made h k d all.ordered l m
+      rises h k d l m = Ordered-at (λ (p q : PivotRow R). p.column < q.column) made h k d all.ordered l m
 
-      different : (h k : ℕ) (d : PivotRow R) → h < length made → k < length made → h ≢ k → (h < k) ⊎ (k ≤ h) → (get_or made k d).column ≢ (get_or made h d).column
+      different : (h k : ℕ) (d : PivotRow R) → h < length made → k < length made → h ≢ k → (h < k) ⊎ (k ≤ h)
+          → (get_or made k d).column ≢ (get_or made h d).column
       different h k d lh lk ne (inl l) e = absurd (omega (arith, e, rises h k d l lk))
       different h k d lh lk ne (inr l) e = absurd (omega (arith, e, rises k h d (omega arith) lh))
 
   module _ (comm : IsCommutative ring) (m : Matrix R) (kept made : List (PivotRow R)) (are : IsMatrix ring m) (is : IsReduced ring m.cols kept) (same : HaveSameSpan ring m.cols m.rows (rows_of ring kept)) where
     -- what is zero at the reduced rows is zero at the rows
-    pub kernel-from : (x : List R) → IsRow ring m.cols x → ((p : PivotRow R) → Contains kept p → dot_of ring p.entries x ≡ ring.zero) → IsKernelMember ring m x
+    pub kernel-from : (x : List R) → IsRow ring m.cols x
+        → ((p : PivotRow R) → Contains kept p → dot_of ring p.entries x ≡ ring.zero) → IsKernelMember ring m x
     kernel-from x r h = (r, map-zeros laws (λ row. dot_of ring row x) m.rows at)
       where
         at : (b : List R) → Contains m.rows b → dot_of ring b x ≡ ring.zero
@@ -270,7 +303,8 @@ module _ {R : Type 0} {ring : RingOf R} (laws : IsRing ring) where
             ((same b).0 (span-member laws m.cols m.rows b are c))
 
     -- and the other way
-    pub kernel-to : (x : List R) → IsKernelMember ring m x → (p : PivotRow R) → Contains kept p → dot_of ring p.entries x ≡ ring.zero
+    pub kernel-to : (x : List R) → IsKernelMember ring m x → (p : PivotRow R) → Contains kept p
+        → dot_of ring p.entries x ≡ ring.zero
     kernel-to x (r, e) p c =
         span-dot laws m.cols m.rows p.entries x are r (λ b i. at b i)
         ((same p.entries).1 (span-member laws m.cols (rows_of ring kept) p.entries (reduced-rows laws m.cols kept is) (Contains-map (λ (q : PivotRow R). q.entries) kept p c)))
@@ -361,7 +395,9 @@ module _ {R : Type 0} {ring : RingOf R} (laws : IsRing ring) where
               sym (laws.mul_one _ v) ∙ ap (ring.mul (entry ring d p.column)) (sym ip.one)
               ∙ sym (dot-single laws m.cols d p.entries p.column rd ip.row ip.inside (λ j l ne. vanish j l ne (find_pivot laws kept j))) ∙ solves p c
             where
-              vanish : (j : ℕ) → j < m.cols → j ≢ p.column → ((q : PivotRow R) × Contains kept q × (q.column ≡ j)) ⊎ ((q : PivotRow R) → Contains kept q → q.column ≢ j)
+              vanish : (j : ℕ) → j < m.cols → j ≢ p.column
+                  → ((q : PivotRow R) × Contains kept q × (q.column ≡ j))
+                  ⊎ ((q : PivotRow R) → Contains kept q → q.column ≢ j)
                   → ring.mul (entry ring d j) (entry ring p.entries j) ≡ ring.zero
               vanish j l ne (inl z) =
                   ap (ring.mul (entry ring d j)) (ap (entry ring p.entries) (sym z.2) ∙ zero-at laws m.cols kept p z.0 is c z.1 (λ e. ne (sym (e ∙ z.2)))) ∙ mul_zero laws _ (entry-value laws m.cols d j l rd)
@@ -372,14 +408,16 @@ module _ {R : Type 0} {ring : RingOf R} (laws : IsRing ring) where
           nothing : d ≡ zero_row ring m.cols
           nothing = zero_row-ext laws m.cols d rd.0 (λ j l. at j l (find_pivot laws kept j))
             where
-              at : (j : ℕ) → j < m.cols → ((q : PivotRow R) × Contains kept q × (q.column ≡ j)) ⊎ ((q : PivotRow R) → Contains kept q → q.column ≢ j) → entry ring d j ≡ ring.zero
+              at : (j : ℕ) → j < m.cols
+                  → ((q : PivotRow R) × Contains kept q × (q.column ≡ j))
+                  ⊎ ((q : PivotRow R) → Contains kept q → q.column ≢ j) → entry ring d j ≡ ring.zero
               at j l (inl z) = ap (entry ring d) (sym z.2) ∙ at_pivot z.0 z.1
               at j l (inr none) = let z = all.complete j l none in ap (entry ring d) (sym z.2) ∙ at_free z.0 z.1
 
           whole : x ≡ w
           whole =
               sym (plus-undo laws m.cols n x w vn r rw') ∙ ap (λ s. row_plus ring s (row_scale ring (ring.neg n) w)) nothing
-              ∙ zeros-plus laws m.cols _ (scale-row laws m.cols _ w (laws.neg_value _ vn) rw') ∙ ap (λ s. row_scale ring s w) (double_neg laws) ∙ scale-one laws m.cols w rw'
+              ∙ zeros-plus laws m.cols _ (scale-row laws m.cols _ w (laws.neg_value _ vn) rw') ∙ ap (λ s. row_scale ring s w) (neg_neg laws ring.one laws.one_value) ∙ scale-one laws m.cols w rw'
 
       -- The solutions at the free columns are a basis of the kernel.
       pub kernel-basis : IsBasisOf ring m.cols (IsKernelMember ring m) (rows_of ring made)

@@ -4,21 +4,21 @@ use Rattle.std.proofs.lemmas.List.{length-map, get_or-map, same_lists, get_or_de
 use Rattle.std.proofs.lemmas.List.FromFn.{get_or-map-range_with_len, length-map-range_with_len}
 use Rattle.std.proofs.lemmas.List.Elements.{All-cons, All-map, All-contains}
 use Rattle.hp_algebra.specs.Ring.{RingOf, IsRing, IsField, IsCommutative, dot_of}
-use Rattle.hp_algebra.specs.Lists.{one_to}
-use Rattle.hp_linear.specs.Rows.{IsRow, entry, zero_row, row_plus, row_scale, row_times}
+use Rattle.hp_lists.specs.Lists.{one_to}
+use Rattle.hp_algebra.specs.Rows.{IsRow, entry, zero_row, row_plus, row_scale, row_times}
 use Rattle.hp_linear.specs.Spaces.{IsCombination, HaveSameSpan}
 use Rattle.hp_linear.specs.Matrices.{Matrix, IsMatrix, IsRank, IsKernelMember, matrix_times, column}
-use Rattle.hp_linear.proofs.Members.{Contains-here, Contains-later, Contains-cases, each-All}
-use Rattle.hp_linear.proofs.Rows.{row-ext, plus-row, entry-value, plus-undo, scale-one}
+use Rattle.hp_lists.proofs.Members.{Contains-here, Contains-later, Contains-cases, each-All}
+use Rattle.hp_algebra.proofs.Rows.{row-ext, plus-row, entry-value, plus-undo, scale-one}
 use Rattle.hp_linear.proofs.Combinations.{times-row, entry-times, combination-row, span-plus, span-scale, span-more, span-member, same_span-from}
-use Rattle.hp_linear.proofs.Dots.{dot-comm}
+use Rattle.hp_algebra.proofs.Dots.{dot-comm}
 use Rattle.hp_linear.proofs.Dependence.{dependence}
 
 module _ {R : Type 0} {ring : RingOf R} (laws : IsRing ring) (comm : IsCommutative ring) (m : Matrix R) (are : IsMatrix ring m) where
   abbrev pub columns : List (List R)
   columns = map (column ring m) (one_to m.cols)
 
-  columns-length : length columns ≡ m.cols
+  pub columns-length : length columns ≡ m.cols
   columns-length = length-map-range_with_len (column ring m) 1 m.cols
 
   column-row : (c : ℕ) → c < m.cols → IsRow ring (length m.rows) (column ring m (c + 1))
@@ -27,13 +27,14 @@ module _ {R : Type 0} {ring : RingOf R} (laws : IsRing ring) (comm : IsCommutati
       back : (c : ℕ) → c < m.cols → c + 1 - 1 < m.cols
       back c l = omega arith
 
-  columns-are : All (IsRow ring (length m.rows)) columns
+  pub columns-are : All (IsRow ring (length m.rows)) columns
   columns-are = λ k d h.
       let below : k < m.cols = subst (λ n. k < n) columns-length h in
       subst (IsRow ring (length m.rows)) (sym (get_or-map-range_with_len (column ring m) 1 m.cols k (k + 1) d below (omega arith))) (column-row k below)
 
   -- M c is the combination of the columns with the entries of c
-  pub times-columns : (c : List R) → IsRow ring m.cols c → matrix_times ring m c ≡ row_times ring (length m.rows) c columns
+  pub times-columns : (c : List R) → IsRow ring m.cols c
+      → matrix_times ring m c ≡ row_times ring (length m.rows) c columns
   times-columns c r = sym (same_lists _ _ (wide.0 ∙ sym (length-map m.rows (λ row. dot_of ring row c))) (λ i d h.
       let l : i < length m.rows = subst (λ n. i < n) wide.0 h in
       get_or_default _ i d ring.zero h ∙ entry-times laws (length m.rows) c columns i l r.1 columns-are
@@ -55,7 +56,8 @@ module _ {R : Type 0} {ring : RingOf R} (laws : IsRing ring) (comm : IsCommutati
           back j = omega arith
 
 -- A system with more unknowns than equations has a solution other than zero.
-pub nonzero-solution : {R : Type 0} {ring : RingOf R} {inverse : R → R} (field : IsField ring inverse) (m : Matrix R) → IsMatrix ring m → length m.rows < m.cols → (c : List R) × IsKernelMember ring m c × (c ≢ zero_row ring m.cols)
+pub nonzero-solution : {R : Type 0} {ring : RingOf R} {inverse : R → R} (field : IsField ring inverse) (m : Matrix R)
+    → IsMatrix ring m → length m.rows < m.cols → (c : List R) × IsKernelMember ring m c × (c ≢ zero_row ring m.cols)
 nonzero-solution {ring = ring} field m are more =
     let L = field.is_ring in
     let long = columns-length L field.commutes m are in
@@ -65,7 +67,8 @@ nonzero-solution {ring = ring} field m are more =
 
 module _ {R : Type 0} {ring : RingOf R} (laws : IsRing ring) where
   -- Matrices with one row space have one rank.
-  pub rank-same_span : (cols d : ℕ) (rows others : List (List R)) → HaveSameSpan ring cols rows others → IsRank ring record { cols = cols; rows = rows } d → IsRank ring record { cols = cols; rows = others } d
+  pub rank-same_span : (cols d : ℕ) (rows others : List (List R)) → HaveSameSpan ring cols rows others
+      → IsRank ring record { cols = cols; rows = rows } d → IsRank ring record { cols = cols; rows = others } d
   rank-same_span cols d rows others same p = (
     p.0,
     record {
@@ -77,7 +80,8 @@ module _ {R : Type 0} {ring : RingOf R} (laws : IsRing ring) where
   )
 
   -- Matrices with the same rows in any order have one rank.
-  pub rank-same_rows : (cols d : ℕ) (rows others : List (List R)) → All (IsRow ring cols) rows → ((b : List R) → Contains rows b ↔ Contains others b)
+  pub rank-same_rows : (cols d : ℕ) (rows others : List (List R)) → All (IsRow ring cols) rows
+      → ((b : List R) → Contains rows b ↔ Contains others b)
       → IsRank ring record { cols = cols; rows = rows } d → IsRank ring record { cols = cols; rows = others } d
   rank-same_rows cols d rows others are same =
       let others_are = each-All (IsRow ring cols) others (λ b c. All-contains (IsRow ring cols) rows b are ((same b).1 c)) in
@@ -85,8 +89,10 @@ module _ {R : Type 0} {ring : RingOf R} (laws : IsRing ring) where
       (λ b c. span-member laws cols rows b are ((same b).1 c)) (λ a c. span-member laws cols others a others_are ((same a).0 c)))
 
   -- To add a combination of the others to a row leaves the rank as it is.
-  pub rank-added : (cols d : ℕ) (row v : List R) (rows : List (List R)) → IsRow ring cols row → All (IsRow ring cols) rows → IsCombination ring cols rows v
-      → IsRank ring record { cols = cols; rows = row ∷ rows } d → IsRank ring record { cols = cols; rows = row_plus ring row v ∷ rows } d
+  pub rank-added : (cols d : ℕ) (row v : List R) (rows : List (List R)) → IsRow ring cols row
+      → All (IsRow ring cols) rows → IsCombination ring cols rows v
+      → IsRank ring record { cols = cols; rows = row ∷ rows } d
+      → IsRank ring record { cols = cols; rows = row_plus ring row v ∷ rows } d
   rank-added cols d row v rows r are c = rank-same_span cols d (row ∷ rows) (sum ∷ rows) (same_span-from laws cols (row ∷ rows) (sum ∷ rows) before after
       (λ b i. forth b (Contains-cases sum rows b i)) (λ a i. back a (Contains-cases row rows a i)))
     where

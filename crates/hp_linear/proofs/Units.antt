@@ -5,22 +5,24 @@ use Rattle.std.proofs.lemmas.List.{length-map, get_or-map}
 use Rattle.std.proofs.lemmas.List.Elements.{All-map, Contains-get_or}
 use Rattle.hp_algebra.specs.Ring.{RingOf, IsRing}
 use Rattle.hp_algebra.proofs.Rings.{mul_zero}
-use Rattle.hp_linear.specs.Rows.{IsRow, entry, zero_row, row_times}
+use Rattle.hp_algebra.specs.Rows.{IsRow, entry, zero_row, row_times}
 use Rattle.hp_linear.specs.Spaces.{AreCoefficients, IsCombination, AreIndependent, HaveSameSpan}
 use Rattle.hp_linear.specs.Matrices.{Matrix, IsRank}
 use Rattle.hp_linear.specs.Echelon.{PivotRow, IsReduced, IsLeftOf, rows_of}
-use Rattle.hp_linear.proofs.Ordered.{ordered-at}
-use Rattle.hp_linear.proofs.Rows.{row-ext, zero_row-ext, entry-value, entry-zeros}
+use Rattle.hp_lists.proofs.Ordered.{Ordered-at}
+use Rattle.hp_algebra.proofs.Rows.{row-ext, zero_row-ext, entry-value, entry-zeros}
 use Rattle.hp_linear.proofs.Combinations.{entry-times, span-member}
-use Rattle.hp_linear.proofs.Dots.{dot-single}
+use Rattle.hp_algebra.proofs.Dots.{dot-single}
 use Rattle.hp_linear.proofs.Reduction.{reduced-rows}
 
 module _ {R : Type 0} {ring : RingOf R} (laws : IsRing ring) where
   pub record HaveUnitColumns (width : ℕ) (kept : List (PivotRow R)) : Type 0 where
     pub are : All (IsRow ring width) (rows_of ring kept)
     pub inside : (k : ℕ) (d : PivotRow R) → k < length kept → (get_or kept k d).column < width
-    pub one : (k : ℕ) (d : PivotRow R) → k < length kept → entry ring (get_or kept k d).entries (get_or kept k d).column ≡ ring.one
-    pub others : (h k : ℕ) (d : PivotRow R) → h < length kept → k < length kept → h ≢ k → entry ring (get_or kept h d).entries (get_or kept k d).column ≡ ring.zero
+    pub one : (k : ℕ) (d : PivotRow R) → k < length kept
+        → entry ring (get_or kept k d).entries (get_or kept k d).column ≡ ring.one
+    pub others : (h k : ℕ) (d : PivotRow R) → h < length kept → k < length kept → h ≢ k
+        → entry ring (get_or kept h d).entries (get_or kept k d).column ≡ ring.zero
 
   pub reduced-units : (width : ℕ) (kept : List (PivotRow R)) → IsReduced ring width kept → HaveUnitColumns width kept
   reduced-units width kept is = record {
@@ -30,13 +32,16 @@ module _ {R : Type 0} {ring : RingOf R} (laws : IsRing ring) where
     others = λ h k d lh lk ne. apart h k d lh lk ne (cases_lt h k);
   }
     where
-      apart : (h k : ℕ) (d : PivotRow R) → h < length kept → k < length kept → h ≢ k → (h < k) ⊎ (k ≤ h) → entry ring (get_or kept h d).entries (get_or kept k d).column ≡ ring.zero
-      apart h k d lh lk ne (inl l) = (ordered-at (IsLeftOf ring) kept h k d is.ordered l lk).clear
-      apart h k d lh lk ne (inr l) = (is.each _ (Contains-get_or kept h d lh)).first _ (ordered-at (IsLeftOf ring) kept k h d is.ordered (omega arith) lh).left
+      apart : (h k : ℕ) (d : PivotRow R) → h < length kept → k < length kept → h ≢ k → (h < k) ⊎ (k ≤ h)
+          → entry ring (get_or kept h d).entries (get_or kept k d).column ≡ ring.zero
+      apart h k d lh lk ne (inl l) = (Ordered-at (IsLeftOf ring) kept h k d is.ordered l lk).clear
+      apart h k d lh lk ne (inr l) = (is.each _ (Contains-get_or kept h d lh)).first _ (Ordered-at (IsLeftOf ring) kept k h d is.ordered (omega arith) lh).left
 
   module _ (width : ℕ) (kept : List (PivotRow R)) (units : HaveUnitColumns width kept) where
     -- the coefficient of a row stands in its column
-    pub unit-coefficient : (cs : List R) (k : ℕ) (d : PivotRow R) → AreCoefficients ring (length kept) cs → k < length kept → entry ring (row_times ring width cs (rows_of ring kept)) (get_or kept k d).column ≡ entry ring cs k
+    pub unit-coefficient : (cs : List R) (k : ℕ) (d : PivotRow R) → AreCoefficients ring (length kept) cs
+        → k < length kept
+        → entry ring (row_times ring width cs (rows_of ring kept)) (get_or kept k d).column ≡ entry ring cs k
     unit-coefficient cs k d a l =
         let j = (get_or kept k d).column in
         let hj = units.inside k d l in
@@ -69,7 +74,8 @@ module _ {R : Type 0} {ring : RingOf R} (laws : IsRing ring) where
     at_units-row v r = (length-map kept (λ p. entry ring v p.column), All-map ring.IsValue (λ (p : PivotRow R). entry ring v p.column) kept (λ k d l. entry-value laws width v _ (units.inside k d l) r))
 
     -- a combination has its coefficients in the columns of the rows
-    pub coefficients-at : (cs : List R) → AreCoefficients ring (length kept) cs → cs ≡ at_units (row_times ring width cs (rows_of ring kept))
+    pub coefficients-at : (cs : List R) → AreCoefficients ring (length kept) cs
+        → cs ≡ at_units (row_times ring width cs (rows_of ring kept))
     coefficients-at cs a =
         let v = row_times ring width cs (rows_of ring kept) in
         let none : PivotRow R = record { column = 0; entries = [] } in
@@ -77,7 +83,8 @@ module _ {R : Type 0} {ring : RingOf R} (laws : IsRing ring) where
         sym (unit-coefficient cs k none a l) ∙ sym (get_or-map (λ (p : PivotRow R). entry ring v p.column) kept k none ring.zero l))
 
     -- A row is in the span exactly where it is the combination with its entries in the columns of the rows.
-    pub in_span-test : (v : List R) → IsRow ring width v → IsCombination ring width (rows_of ring kept) v ↔ (v ≡ row_times ring width (at_units v) (rows_of ring kept))
+    pub in_span-test : (v : List R) → IsRow ring width v
+        → IsCombination ring width (rows_of ring kept) v ↔ (v ≡ row_times ring width (at_units v) (rows_of ring kept))
     in_span-test v r =
         let many : length (rows_of ring kept) ≡ length kept = length-map kept (λ (p : PivotRow R). p.entries) in (
           λ c. c.2 ∙ ap (λ cs. row_times ring width cs (rows_of ring kept)) (coefficients-at c.0 (c.1.0 ∙ many, c.1.1) ∙ ap at_units (sym c.2)),
@@ -85,7 +92,8 @@ module _ {R : Type 0} {ring : RingOf R} (laws : IsRing ring) where
         )
 
   -- the rank is the number of reduced rows with the same span
-  pub reduced-rank : (m : Matrix R) (kept : List (PivotRow R)) → IsReduced ring m.cols kept → HaveSameSpan ring m.cols m.rows (rows_of ring kept) → IsRank ring m (length kept)
+  pub reduced-rank : (m : Matrix R) (kept : List (PivotRow R)) → IsReduced ring m.cols kept
+      → HaveSameSpan ring m.cols m.rows (rows_of ring kept) → IsRank ring m (length kept)
   reduced-rank m kept is same = (
     rows_of ring kept,
     record {

@@ -1,8 +1,8 @@
 -- Rows in reduced echelon form, each with the column of its pivot.
 use Rattle.std.specs.Prelude.{◌≡◌, ◌≢◌, ℕ, ◌<◌, List, map, length, Contains}
 use Rattle.hp_algebra.specs.Ring.{RingOf}
-use Rattle.hp_algebra.proofs.Rising.{Ordered}
-use Rattle.hp_linear.specs.Rows.{IsRow, entry, row_plus, row_scale}
+use Rattle.hp_lists.specs.Lists.{Ordered}
+use Rattle.hp_algebra.specs.Rows.{IsRow, entry, row_plus, row_scale}
 use Rattle.hp_linear.specs.Spaces.{IsCombination}
 
 -- A row, and the column of its first entry other than zero, counted from 0.
@@ -56,4 +56,5 @@ module _ {R : Type 0} (ring : RingOf R) where
     pub is_row : IsRow ring width c
     pub one : entry ring c free ≡ ring.one
     pub at_pivots : (p : PivotRow R) → Contains kept p → entry ring c p.column ≡ ring.neg (entry ring p.entries free)
-    pub elsewhere : (j : ℕ) → j < width → j ≢ free → ((p : PivotRow R) → Contains kept p → p.column ≢ j) → entry ring c j ≡ ring.zero
+    pub elsewhere : (j : ℕ) → j < width → j ≢ free → ((p : PivotRow R) → Contains kept p → p.column ≢ j)
+        → entry ring c j ≡ ring.zero

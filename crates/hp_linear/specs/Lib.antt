@@ -1,5 +1,3 @@
 pub mod Echelon
 pub mod Matrices
-pub mod Points
-pub mod Rows
 pub mod Spaces

@@ -2,8 +2,8 @@
 use Rattle.std.specs.Prelude.{◌≡◌, ℕ, ◌+◌, ◌-◌, ◌<◌, ◌≤◌, ◌==◌, if◌then◌else◌, List, [], ◌∷◌, ◌++◌, map, length, All, slice_index_or, slice_get, Some}
 use Rattle.std.specs.List.Sorted.{IsStrictlyIncreasing}
 use Rattle.hp_algebra.specs.Ring.{RingOf, dot_of}
-use Rattle.hp_algebra.specs.Lists.{one_to}
-use Rattle.hp_linear.specs.Rows.{IsRow, entry, zero_row}
+use Rattle.hp_lists.specs.Lists.{one_to}
+use Rattle.hp_algebra.specs.Rows.{IsRow, entry, zero_row, unit_row}
 use Rattle.hp_linear.specs.Spaces.{IsCombination, HaveSameSpan, HasDimension}
 
 -- A matrix: its number of columns, and its rows.
@@ -36,8 +36,10 @@ module _ {R : Type 0} (ring : RingOf R) where
     pub one_each : length pivots ≡ length e.rows
     pub rising : IsStrictlyIncreasing pivots
     pub in_range : All (λ c. (1 ≤ c) × (c ≤ e.cols)) pivots
-    pub first : (k j c : ℕ) (row : List R) → slice_get e.rows k ≡ Some row → slice_get pivots k ≡ Some c → 1 ≤ j → j < c → entry ring row (j - 1) ≡ ring.zero
-    pub unit : (k h c : ℕ) (row : List R) → slice_get e.rows h ≡ Some row → slice_get pivots k ≡ Some c → entry ring row (c - 1) ≡ (if h == k then ring.one else ring.zero)
+    pub first : (k j c : ℕ) (row : List R) → slice_get e.rows k ≡ Some row → slice_get pivots k ≡ Some c → 1 ≤ j → j < c
+        → entry ring row (j - 1) ≡ ring.zero
+    pub unit : (k h c : ℕ) (row : List R) → slice_get e.rows h ≡ Some row → slice_get pivots k ≡ Some c
+        → entry ring row (c - 1) ≡ (if h == k then ring.one else ring.zero)
 
   -- M c for a column c
   abbrev pub matrix_times : Matrix R → List R → List R
@@ -59,12 +61,8 @@ module _ {R : Type 0} (ring : RingOf R) where
   abbrev pub matrix_product : Matrix R → Matrix R → Matrix R
   matrix_product m n = record { cols = n.cols; rows = map (λ row. map (λ c. dot_of ring row (column n c)) (one_to n.cols)) m.rows }
 
-  -- row r of the identity matrix, counted from 1
-  abbrev pub unit_row : ℕ → ℕ → List R
-  unit_row n r = map (λ c. if r == c then ring.one else ring.zero) (one_to n)
-
   abbrev pub identity_matrix : ℕ → Matrix R
-  identity_matrix n = record { cols = n; rows = map (unit_row n) (one_to n) }
+  identity_matrix n = record { cols = n; rows = map (unit_row ring n) (one_to n) }
 
   -- rows side by side
   abbrev pub joined : List (List R) → List (List R) → List (List R)
@@ -78,7 +76,7 @@ module _ {R : Type 0} (ring : RingOf R) where
 
   -- m with the columns of the identity matrix
   abbrev pub with_identity : Matrix R → Matrix R
-  with_identity m = record { cols = m.cols + m.cols; rows = joined m.rows (map (unit_row m.cols) (one_to m.cols)) }
+  with_identity m = record { cols = m.cols + m.cols; rows = joined m.rows (map (unit_row ring m.cols) (one_to m.cols)) }
 
   -- n is the inverse of the square matrix m, on both sides
   pub record IsInverse (m n : Matrix R) : Type 0 where

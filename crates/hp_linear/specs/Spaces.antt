@@ -1,7 +1,7 @@
 -- Spaces of rows: spans, independence, bases and dimension.
 use Rattle.std.specs.Prelude.{◌≡◌, ◌↔◌, ℕ, List, length, Contains}
 use Rattle.hp_algebra.specs.Ring.{RingOf}
-use Rattle.hp_linear.specs.Rows.{IsRow, row_times, zero_row}
+use Rattle.hp_algebra.specs.Rows.{IsRow, row_times, zero_row}
 
 module _ {R : Type 0} (ring : RingOf R) where
   -- one coefficient for each of so many rows

@@ -1,13 +1,13 @@
 //! Elimination: rows in reduced form, to which one row at a time is added.
 
 ghost use Rattle.std.specs.Prelude.{◌≡◌, ◌↔◌, ◌∷◌, ℕ, ◌+◌, ◌^◌, ◌<◌, ◌≤◌, IfOk, IfSome, IsNone, All, Contains, length, map, slice_index_or};
-ghost use Rattle.hp_linear.specs.Rows.{zero_row};
+ghost use Rattle.hp_algebra.specs.Rows.{zero_row};
 ghost use Rattle.hp_linear.specs.Spaces.{HaveSameSpan};
 ghost use Rattle.hp_linear.specs.Echelon.{PivotRow, IsReduced, IsReductionOf, IsMonic, rows_of, cleared};
 
 use crate::pivot::Pivoted;
-use crate::row::{leading, scaled};
-use hp_algebra::{Field, NoMem};
+use crate::row::leading;
+use hp_algebra::{Field, NoMem, scaled};
 use std::alloc::Global;
 
 /// The row plus the combination of the kept rows that makes its entries in all pivot columns zero.
@@ -37,6 +37,8 @@ fn pivot_of<F: Field>(row: Vec<F>) -> Option<Pivoted<F>>
 fn cleared<F: Field>(mut kept: Vec<Pivoted<F>>, pivot: &Pivoted<F>) -> Vec<Pivoted<F>>
     requires widths { All (λ p. length p.entries ≡ length pivot.now.entries) kept.items }
     requires inside { pivot.now.column < length pivot.now.entries }
+    requires values { All (λ p. All F.ring.IsValue p.entries) kept.items }
+    requires pivot { All F.ring.IsValue pivot.now.entries }
     ensures { result.items ≡ map (cleared F.ring pivot.now) kept.items }
 {
     for p in kept.iter_mut() {

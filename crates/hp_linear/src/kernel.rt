@@ -1,7 +1,6 @@
 //! Solutions that are read off rows in reduced form.
 
 ghost use Rattle.std.specs.Prelude.{◌≡◌, ◌≢◌, ◌↔◌, ℕ, ◌+◌, ◌<◌, ◌≤◌, IfOk, IsTrue, All, Contains, length, map, drop, replicate, slice_index_or};
-ghost use Rattle.hp_linear.specs.Matrices.{unit_row};
 ghost use Rattle.hp_linear.specs.Echelon.{PivotRow, IsReduced, IsFreeSolution};
 
 use crate::pivot::Pivoted;
@@ -51,16 +50,6 @@ pub fn free_solution<F: Field>(
         c[p.column()] = p.entries()[free].negate();
     }
     Ok(c)
-}
-
-/// Row `place` of the identity, counted from 0.
-pub fn unit_row<F: Field>(alloc: Global, width: usize, place: usize) -> Result<Vec<F>, NoMem>
-    requires { place < width }
-    ensures { IfOk result (λ row. row.items ≡ unit_row F.ring width (place + 1)) }
-{
-    let mut row = zeros(alloc, width)?;
-    row[place] = F::unit();
-    Ok(row)
 }
 
 /// Whether there are so many rows, with their pivots in the first columns.

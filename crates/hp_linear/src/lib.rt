@@ -8,7 +8,5 @@ mod kernel;
 mod matrix;
 mod pivot;
 mod row;
-#[cfg(test)]
-mod tests;
 
 pub use matrix::Matrix;

@@ -1,16 +1,16 @@
 //! Matrices.
 
 ghost use Rattle.std.specs.Prelude.{◌≡◌, ℕ, ◌+◌, ◌<◌, ◌≤◌, List, [], IfOk, IfSome, IsNone, All, length, map, slice_index_or};
-ghost use Rattle.hp_linear.specs.Rows.{IsRow};
+ghost use Rattle.hp_algebra.specs.Rows.{IsRow};
 ghost use Rattle.hp_linear.specs.Spaces.{HaveSameSpan, IsBasisOf};
 ghost use Rattle.hp_linear.specs.Matrices.{IsMatrix, IsEchelonForm, IsRank, IsKernelMember, IsSolution, IsInverse, Matrix as MatrixOf, matrix_entry, with_column, with_identity};
 ghost use Rattle.hp_linear.specs.Echelon.{IsReduced, rows_of};
 
 use crate::echelon::{entries_of, insert, numbers_of};
-use crate::kernel::{fill_columns, free_solution, has_pivot, rests_of, unit_row};
+use crate::kernel::{fill_columns, free_solution, has_pivot, rests_of};
 use crate::pivot::Pivoted;
-use crate::row::{look_at, scaled};
-use hp_algebra::{Field, NoMem};
+use crate::row::look_at;
+use hp_algebra::{Field, NoMem, scaled, unit_row};
 use std::alloc::Global;
 use std::marker::Model;
 
@@ -204,7 +204,7 @@ impl<F: Field> Matrix<F> {
         let mut rows = Vec::new(alloc);
         for k in 0..cols {
             let mut row = Vec::from_slice(alloc, self.row(k))?;
-            let unit = unit_row(alloc, cols, k)?;
+            let unit = unit_row(alloc, cols, k + 1)?;
             row.extend_from_slice(&unit)?;
             rows.push(row)?;
         }

@@ -1,6 +1,6 @@
 //! A row with the column of its pivot.
 
-ghost use Rattle.std.specs.Prelude.{◌≡◌, ◌<◌, length};
+ghost use Rattle.std.specs.Prelude.{◌≡◌, ◌<◌, All, length};
 ghost use Rattle.hp_linear.specs.Echelon.{cleared_row, cleared};
 
 use crate::row::add_multiple;
@@ -47,20 +47,27 @@ impl<F: Field> Pivoted<F> {
         self.entries
     }
 
-    /// Adds to the row the multiple of this one that makes its entry in the column of the pivot zero.
+    /// Adds to the row the multiple of this one that makes its entry in the column of the pivot zero. Where it is zero
+    /// already, nothing is to be done.
     pub fn clear_in(&self, row: &mut [F])
         requires widths { length row.old ≡ length self.now.entries }
         requires inside { self.now.column < length row.old }
+        requires values { All F.ring.IsValue row.old }
+        requires pivot { All F.ring.IsValue self.now.entries }
         ensures { row.new ≡ cleared_row F.ring self.now row.old }
     {
         let c = row[self.column].negate();
-        add_multiple(row, c, &self.entries);
+        if !c.is_nil() {
+            add_multiple(row, c, &self.entries);
+        }
     }
 
     /// The same to a row with a pivot, which stays where it is.
     pub fn clear(&mut self, pivot: &Pivoted<F>)
         requires widths { length self.old.entries ≡ length pivot.now.entries }
         requires inside { pivot.now.column < length self.old.entries }
+        requires values { All F.ring.IsValue self.old.entries }
+        requires pivot { All F.ring.IsValue pivot.now.entries }
         ensures { self.new ≡ cleared F.ring pivot.now self.old }
     {
         pivot.clear_in(&mut self.entries);

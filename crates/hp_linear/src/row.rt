@@ -1,7 +1,7 @@
 //! Operations on one row.
 
 ghost use Rattle.std.specs.Prelude.{◌≡◌, ◌≢◌, ◌↔◌, ℕ, ◌<◌, IfSome, IsNone, All, length};
-ghost use Rattle.hp_linear.specs.Rows.{row_plus, row_scale, zero_row, entry};
+ghost use Rattle.hp_algebra.specs.Rows.{row_plus, row_scale, zero_row, entry};
 
 use hp_algebra::Field;
 
@@ -13,16 +13,6 @@ pub fn add_multiple<F: Field>(row: &mut [F], c: F, other: &[F])
     for k in 0..row.len() {
         row[k] = row[k].plus(c.times(other[k]));
     }
-}
-
-/// The row times c.
-pub fn scaled<F: Field>(mut row: Vec<F>, c: F) -> Vec<F>
-    ensures { result.items ≡ row_scale F.ring c row.items }
-{
-    for k in 0..row.len() {
-        row[k] = c.times(row[k]);
-    }
-    row
 }
 
 /// The place of the first entry that is not zero, counted from 0.

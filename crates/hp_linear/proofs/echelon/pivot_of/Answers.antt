@@ -1,7 +1,7 @@
 use Rattle.std.proofs.Common.{◌≡◌, ◌<◌, ℕ, List, length, ap, ◌∙◌, subst}
 use Rattle.std.specs.Prelude.{Option, IfSome}
 use Rattle.std.proofs.lemmas.List.{get_or_default}
-use Rattle.hp_linear.specs.Rows.{entry, row_scale}
+use Rattle.hp_algebra.specs.Rows.{entry, row_scale}
 use Rattle.hp_linear.proofs.echelon.pivot_of.Goals as goal
 
 pub returns-clause-some : goal.returns-clause-some

@@ -1,7 +1,7 @@
-use Rattle.std.proofs.Common.{◌≡◌, ◌<◌, ◌++◌, List, length, Contains, take, drop, refl, sym, ap, ◌∙◌, subst, arith}
+use Rattle.std.proofs.Common.{◌≡◌, ◌<◌, ◌++◌, List, All, length, Contains, take, drop, refl, sym, ap, ◌∙◌, subst, arith}
 use Rattle.std.proofs.lemmas.List.Elements.{Contains-get_or}
 use Rattle.std.proofs.lemmas.Grind.{common_steps}
-use Rattle.hp_linear.specs.Rows.{IsRow, entry}
+use Rattle.hp_algebra.specs.Rows.{IsRow, entry}
 use Rattle.hp_linear.specs.Echelon.{PivotRow, cleared_row}
 use Rattle.hp_linear.proofs.Reduction.{cleared-row, differs-not, differs-more, zeros-more}
 use Rattle.hp_linear.proofs.echelon.reduced.Goals as goal
@@ -25,6 +25,10 @@ clear_in-requires g c =
     record {
       widths = wide ∙ sym is.row.0;
       inside = subst (λ n. p.column < n) (sym wide) is.inside;
+      values =
+          let P : List g.row.F.Denot → Type 0 = All g.F.Ring.ring.IsValue in
+          subst P (sym c.deref_mut.ensures.value) c.loop-p.invariant.row.1;
+      pivot = is.row.1;
     }
 
 pub loop-p-preserved : goal.loop-p-preserved

@@ -1,5 +1,5 @@
 use Rattle.std.proofs.Common.{◌≡◌, ◌<◌, ℕ, List, length, get_or}
-use Rattle.hp_linear.specs.Rows.{IsRow, entry, row_plus}
+use Rattle.hp_algebra.specs.Rows.{IsRow, entry, row_plus}
 use Rattle.hp_linear.specs.Spaces.{IsCombination}
 use Rattle.hp_linear.specs.Echelon.{PivotRow, rows_of}
 use Rattle.hp_linear.proofs.echelon.reduced.Given as goal

@@ -2,7 +2,7 @@ use Rattle.std.proofs.Common.{◌≡◌, ◌+◌, ◌<◌, List, length, Contain
 use Rattle.std.specs.Prelude.{slice_set}
 use Rattle.std.proofs.lemmas.List.{get_or_default}
 use Rattle.std.proofs.lemmas.List.Elements.{Contains-get_or}
-use Rattle.hp_linear.specs.Rows.{entry}
+use Rattle.hp_algebra.specs.Rows.{entry}
 use Rattle.hp_linear.specs.Echelon.{PivotRow}
 use Rattle.hp_linear.proofs.Kernels.{IsFreePart, free-more, free-last}
 use Rattle.hp_linear.proofs.kernel.free_solution.Goals as goal

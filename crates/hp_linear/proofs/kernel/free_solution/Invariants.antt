@@ -1,5 +1,5 @@
 use Rattle.std.proofs.Common.{◌≡◌, ◌≢◌, ◌<◌, ℕ, get_or}
-use Rattle.hp_linear.specs.Rows.{IsRow, entry}
+use Rattle.hp_algebra.specs.Rows.{IsRow, entry}
 use Rattle.hp_linear.specs.Echelon.{PivotRow}
 use Rattle.hp_linear.proofs.kernel.free_solution.Given as goal
 

@@ -1,7 +1,7 @@
 use Rattle.std.proofs.Common.{◌≡◌, ◌<◌, length, sym, ap, ◌∙◌, arith}
 use Rattle.std.proofs.lemmas.List.{same_lists, get_or-map}
-use Rattle.hp_linear.specs.Rows.{row_scale}
-use Rattle.hp_linear.proofs.Rows.{length-plus, length-scale, get_or-plus}
+use Rattle.hp_algebra.specs.Rows.{row_scale}
+use Rattle.hp_algebra.proofs.Rows.{length-plus, length-scale, get_or-plus}
 use Rattle.hp_linear.proofs.row.add_multiple.Goals as goal
 
 pub returns : goal.returns

@@ -1,5 +1,5 @@
 use Rattle.std.proofs.Common.{length, refl, arith}
-use Rattle.hp_linear.proofs.Rows.{zero_row-ext}
+use Rattle.hp_algebra.proofs.Rows.{zero_row-ext}
 use Rattle.hp_linear.proofs.row.leading.Goals as goal
 
 pub returns-clause-none : goal.returns-clause-none

@@ -1,7 +1,7 @@
 use Rattle.std.proofs.Common.{◌≡◌, ◌+◌, ◌-◌, ◌<◌, List, [], ◌∷◌, length, drop, get_or, sym, ap, ◌∙◌, subst, arith}
 use Rattle.std.proofs.lemmas.List.{drop_more}
 use Rattle.std.proofs.lemmas.List.Elements.{All-drop}
-use Rattle.hp_linear.specs.Rows.{IsRow}
+use Rattle.hp_algebra.specs.Rows.{IsRow}
 use Rattle.hp_linear.specs.Spaces.{HaveSameSpan}
 use Rattle.hp_linear.specs.Matrices.{IsMatrix}
 use Rattle.hp_linear.specs.Echelon.{PivotRow, IsReduced, rows_of}

@@ -6,7 +6,7 @@ use Rattle.hp_algebra.specs.Ring.{RingOf}
 use Rattle.hp_linear.specs.Spaces.{HaveSameSpan}
 use Rattle.hp_linear.specs.Matrices.{Matrix, IsInverse, with_identity}
 use Rattle.hp_linear.specs.Echelon.{PivotRow, IsReduced, rows_of}
-use Rattle.hp_linear.proofs.Inverses.{parts-are, inverse-from, inverse-full}
+use Rattle.hp_linear.proofs.InverseMatrices.{parts-are, inverse-from, inverse-full}
 use Rattle.hp_linear.proofs.matrix.Matrix.inverse.Goals as goal
 
 pub returns-then-not-fill_columns-clause-none : goal.returns-then-not-fill_columns-clause-none
@@ -74,14 +74,11 @@ new-requires g c =
 
 pub returns-clause-some : goal.returns-clause-some
 returns-clause-some g c =
-    let ring = g.F.Ring.ring in
     let m = c.args.self.now in
     let kept = c.in_ok-kept.kept.items in
-    let rows = c.in_ok-rows.rows.items in
-    let f : Vec g.row.F.Denot Global → List g.row.F.Denot = λ row. row.items in
-    let all = from_test ring m c.in_ok-extended.extended kept c.deref.result.now c.cols-cols.result c.in_ok-extended.ensures.extended c.deref.ensures.value c.cols-cols.ensures.value
+    let all = from_test g.F.Ring.ring m c.in_ok-extended.extended kept c.deref.result.now c.cols-cols.result c.in_ok-extended.ensures.extended c.deref.ensures.value c.cols-cols.ensures.value
     c.in_ok-kept.ensures.reduced c.in_ok-kept.ensures.span (c.fill_columns.ensures.0 c.if-not-fill_columns.false) in
-    let same : map f rows ≡ _ = same_rows f rows kept c.deref-2.result.now c.cols-cols.result m.cols c.deref-2.ensures.value c.cols-cols.ensures.value c.in_ok-rows.ensures in
+    let same = same_rows (λ (row : Vec g.row.F.Denot Global). row.items) c.in_ok-rows.rows.items kept c.deref-2.result.now c.cols-cols.result m.cols c.deref-2.ensures.value c.cols-cols.ensures.value c.in_ok-rows.ensures in
     let cols = c.cols-cols.ensures.value in
-    subst (IsInverse ring m) (sym (c.new.ensures ∙ (λ i. record { cols = cols i; rows = same i })))
+    subst (IsInverse g.F.Ring.ring m) (sym (c.new.ensures ∙ (λ i. record { cols = cols i; rows = same i })))
     (inverse-from g.met.F.Ring.ring_laws m kept c.in_ok-extended.ensures.matrix c.requires all.reduced all.span all.full all.placed)

@@ -1,6 +1,6 @@
 use Rattle.std.proofs.Common.{◌≡◌, List, length, get_or, All, Vec, Global, ap, subst, arith}
 use Rattle.std.proofs.lemmas.List.Elements.{All-map}
-use Rattle.hp_linear.specs.Rows.{IsRow}
+use Rattle.hp_algebra.specs.Rows.{IsRow}
 use Rattle.hp_linear.proofs.matrix.Matrix.new.Goals as goal
 
 pub invariant_of-result : goal.invariant_of-result

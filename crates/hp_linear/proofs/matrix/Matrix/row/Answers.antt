@@ -1,6 +1,6 @@
 use Rattle.std.proofs.Common.{◌≡◌, ◌<◌, List, [], length, map, get_or, Vec, Global, sym, ap, ◌∙◌, subst}
 use Rattle.std.proofs.lemmas.List.{get_or-map, length-map}
-use Rattle.hp_linear.specs.Rows.{IsRow}
+use Rattle.hp_algebra.specs.Rows.{IsRow}
 use Rattle.hp_linear.specs.Matrices.{Matrix}
 use Rattle.hp_linear.proofs.matrix.Matrix.row.Goals as goal
 

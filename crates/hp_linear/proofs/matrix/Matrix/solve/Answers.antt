@@ -1,6 +1,6 @@
 use Rattle.std.proofs.Common.{◌≡◌, ◌≢◌, ◌+◌, List, take, Contains, sym, ap, ◌∙◌, subst}
 use Rattle.std.proofs.lemmas.Bool.{false≢true}
-use Rattle.hp_linear.specs.Rows.{row_scale}
+use Rattle.hp_algebra.specs.Rows.{row_scale}
 use Rattle.hp_linear.specs.Spaces.{HaveSameSpan}
 use Rattle.hp_linear.specs.Matrices.{Matrix, IsMatrix, IsSolution, with_column}
 use Rattle.hp_linear.specs.Echelon.{PivotRow, IsReduced, IsFreeSolution, rows_of}
@@ -9,14 +9,13 @@ use Rattle.hp_linear.proofs.matrix.Matrix.solve.Goals as goal
 
 pub returns-then-has_pivot-clause-none : goal.returns-then-has_pivot-clause-none
 returns-then-has_pivot-clause-none g c none x solves =
-    let laws = g.met.F.Ring.ring_laws in
     let ring = g.F.Ring.ring in
     let m = c.args.self.now in
     let b = c.args.b.now in
     let kept = c.in_ok-kept.kept.items in
     let ext : c.in_ok-extended.extended ≡ with_column ring m b = c.in_ok-extended.ensures.extended in
     let found = c.has_pivot.ensures.0 c.if-has_pivot.true in
-    solution-none laws g.met.F.CommRing.commutes m b kept c.in_ok-extended.ensures.matrix c.in_ok-extended.ensures.values c.requires
+    solution-none g.met.F.Ring.ring_laws g.met.F.CommRing.commutes m b kept c.in_ok-extended.ensures.matrix c.in_ok-extended.ensures.values c.requires
     (subst (IsMatrix ring) ext c.in_ok-kept.ensures.matrix)
     (subst (λ (e : Matrix g.row.F.Denot). IsReduced ring e.cols kept) ext c.in_ok-kept.ensures.reduced)
     (subst (λ (e : Matrix g.row.F.Denot). HaveSameSpan ring e.cols e.rows (rows_of ring kept)) ext c.in_ok-kept.ensures.span)
@@ -24,7 +23,6 @@ returns-then-has_pivot-clause-none g c none x solves =
 
 pub returns-clause-some : goal.returns-clause-some
 returns-clause-some g c =
-    let laws = g.met.F.Ring.ring_laws in
     let ring = g.F.Ring.ring in
     let m = c.args.self.now in
     let b = c.args.b.now in
@@ -38,7 +36,7 @@ returns-clause-some g c =
     (subst (λ (ks : List (PivotRow g.row.F.Denot)). IsFreeSolution ring c.cols.result ks c.cols-cols.result v) c.deref-2.ensures.value c.in_ok-c.ensures)) in
     let apart : (p : PivotRow g.row.F.Denot) → Contains kept p → p.column ≢ m.cols =
     λ p i e. false≢true (sym c.if-has_pivot.false ∙ c.has_pivot.ensures.1 (p, subst (λ (ks : List (PivotRow g.row.F.Denot)). Contains ks p) (sym c.deref.ensures.value) i, e ∙ sym cols)) in
-    let made = solution-from laws g.met.F.CommRing.commutes m b kept c.in_ok-extended.ensures.matrix c.in_ok-extended.ensures.values c.requires
+    let made = solution-from g.met.F.Ring.ring_laws g.met.F.CommRing.commutes m b kept c.in_ok-extended.ensures.matrix c.in_ok-extended.ensures.values c.requires
     (subst (IsMatrix ring) ext c.in_ok-kept.ensures.matrix)
     (subst (λ (e : Matrix g.row.F.Denot). IsReduced ring e.cols kept) ext c.in_ok-kept.ensures.reduced)
     (subst (λ (e : Matrix g.row.F.Denot). HaveSameSpan ring e.cols e.rows (rows_of ring kept)) ext c.in_ok-kept.ensures.span)

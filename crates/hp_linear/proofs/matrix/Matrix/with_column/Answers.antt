@@ -2,7 +2,7 @@ use Rattle.std.proofs.Common.{◌≡◌, ◌+◌, ◌<◌, ◌++◌, List, [], �
 use Rattle.std.proofs.lemmas.List.{same_lists, length-map, get_or-map}
 use Rattle.std.proofs.lemmas.Grind.{common_steps}
 use Rattle.hp_linear.specs.Matrices.{joined}
-use Rattle.hp_linear.proofs.Members.{get_or-mapped}
+use Rattle.hp_lists.proofs.Members.{get_or-mapped}
 use Rattle.hp_linear.proofs.Solutions.{length-joined, get_or-joined}
 use Rattle.hp_linear.proofs.matrix.Matrix.with_column.Goals as goal
 

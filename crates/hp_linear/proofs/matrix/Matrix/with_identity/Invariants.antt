@@ -1,5 +1,5 @@
 use Rattle.std.proofs.Common.{◌≡◌, ◌+◌, ◌<◌, ◌++◌, [], ℕ, length, get_or, Vec, Global}
-use Rattle.hp_linear.specs.Matrices.{unit_row}
+use Rattle.hp_algebra.specs.Rows.{unit_row}
 use Rattle.hp_linear.proofs.matrix.Matrix.with_identity.Given as goal
 
 abbrev pub invariant-loop-k : goal.invariant-loop-k

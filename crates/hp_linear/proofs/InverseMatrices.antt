@@ -1,22 +1,21 @@
 -- Inverses by the matrix with the identity at its side.
-use Rattle.std.proofs.Common.{◌≡◌, ◌≢◌, ◌⊎◌, ℕ, zero, suc, ◌+◌, ◌-◌, ◌<◌, ◌≤◌, ◌==◌, Bool, true, false, cond, List, [], ◌∷◌, ◌++◌, map, length, take, drop, All, Contains, get_or, refl, sym, ap, subst, ◌∙◌, arith, inl, inr}
-use Rattle.std.specs.Prelude.{slice_set}
-use Rattle.std.proofs.lemmas.Bool.{cases_eq, cases_lt, eq-eqb, ne_eqb}
-use Rattle.std.proofs.lemmas.List.{same_lists, length-map, get_or-map, length-append, get_or-set_same, get_or-set_other, length-set, map-append, take-append-drop, replicate-append-replicate}
+use Rattle.std.proofs.Common.{◌≡◌, ◌≢◌, ◌⊎◌, ℕ, zero, suc, ◌+◌, ◌-◌, ◌<◌, ◌≤◌, List, [], ◌∷◌, ◌++◌, map, length, take, drop, All, Contains, get_or, refl, sym, ap, subst, ◌∙◌, arith, inl, inr}
+use Rattle.std.proofs.lemmas.Bool.{cases_eq, cases_lt}
+use Rattle.std.proofs.lemmas.List.{same_lists, length-map, get_or-map, length-append, map-append, take-append-drop, replicate-append-replicate}
 use Rattle.std.proofs.lemmas.List.FromFn.{get_or-map-range_with_len, length-map-range_with_len}
 use Rattle.std.proofs.lemmas.List.Elements.{All-nil, All-cons, All-head, All-tail, All-append, All-map, Contains-get_or}
 use Rattle.hp_algebra.specs.Ring.{RingOf, IsRing, IsField, dot_of}
-use Rattle.hp_algebra.specs.Lists.{one_to}
+use Rattle.hp_lists.specs.Lists.{one_to, Ordered}
 use Rattle.hp_algebra.proofs.Rings.{mul_zero, zero_mul}
-use Rattle.hp_linear.specs.Rows.{IsRow, entry, zero_row, row_plus, row_scale, row_times}
+use Rattle.hp_algebra.specs.Rows.{IsRow, entry, row_plus, row_scale, row_times, unit_row}
 use Rattle.hp_linear.specs.Spaces.{IsCombination, HaveSameSpan}
-use Rattle.hp_linear.specs.Matrices.{Matrix, IsMatrix, IsInverse, matrix_product, identity_matrix, unit_row, column, joined}
+use Rattle.hp_linear.specs.Matrices.{Matrix, IsMatrix, IsInverse, matrix_product, identity_matrix, column, joined}
 use Rattle.hp_linear.specs.Echelon.{PivotRow, IsReduced, rows_of}
-use Rattle.hp_algebra.proofs.Rising.{Ordered}
-use Rattle.hp_linear.proofs.Members.{Contains-here, Contains-cases, Contains-none}
-use Rattle.hp_linear.proofs.Rows.{down, row-ext, entry-value, entry-zeros, zeros-row, scale-row}
+use Rattle.hp_lists.proofs.Members.{Contains-here, Contains-cases, Contains-none}
+use Rattle.hp_algebra.proofs.Rows.{row-ext, entry-value, scale-row}
 use Rattle.hp_linear.proofs.Combinations.{times-row, entry-times, span-member, combination-row}
-use Rattle.hp_linear.proofs.Dots.{dot-single, dot-none}
+use Rattle.hp_algebra.proofs.UnitRows.{unit-one, unit-zero, unit-row, identity_rows, identity-length, identity-at, identity-are}
+use Rattle.hp_algebra.proofs.Dots.{dot-single, dot-none}
 use Rattle.hp_linear.proofs.Dimension.{independent-few}
 use Rattle.hp_linear.proofs.Reduction.{reduced-rows}
 use Rattle.hp_linear.proofs.Units.{reduced-units, in_span-test, at_units, at_units-row, units-independent}
@@ -30,13 +29,13 @@ module _ {X : Type 0} where
   take-front [] b zero e = refl
   take-front [] b (suc n) e = absurd (omega (arith, e))
   take-front (x ∷ a) b zero e = absurd (omega (arith, e))
-  take-front (x ∷ a) b (suc n) e = ap (λ xs. x ∷ xs) (take-front a b n (down _ _ e))
+  take-front (x ∷ a) b (suc n) e = ap (λ xs. x ∷ xs) (take-front a b n (omega (arith, e)))
 
   drop-front : (a b : List X) (n : ℕ) → length a ≡ n → drop n (a ++ b) ≡ b
   drop-front [] b zero e = refl
   drop-front [] b (suc n) e = absurd (omega (arith, e))
   drop-front (x ∷ a) b zero e = absurd (omega (arith, e))
-  drop-front (x ∷ a) b (suc n) e = drop-front a b n (down _ _ e)
+  drop-front (x ∷ a) b (suc n) e = drop-front a b n (omega (arith, e))
 
   get_or-front : (a b : List X) (j : ℕ) (d : X) → j < length a → get_or (a ++ b) j d ≡ get_or a j d
   get_or-front [] b j d l = absurd (omega arith)
@@ -65,7 +64,8 @@ module _ {X : Type 0} where
   All-rest P (suc n) (x ∷ xs) p = All-rest P n xs (All-tail P x xs p)
 
 -- rising columns that fill a range
-columns-exact : {R : Type 0} (n a : ℕ) (kept : List (PivotRow R)) → Ordered (λ p q. p.column < q.column) kept → ((p : PivotRow R) → Contains kept p → a ≤ p.column)
+columns-exact : {R : Type 0} (n a : ℕ) (kept : List (PivotRow R)) → Ordered (λ p q. p.column < q.column) kept
+    → ((p : PivotRow R) → Contains kept p → a ≤ p.column)
     → ((k : ℕ) → a ≤ k → k < a + n → (p : PivotRow R) × Contains kept p × (p.column ≡ k)) → length kept ≤ n
     → (length kept ≡ n) × ((k : ℕ) (d : PivotRow R) → k < n → (get_or kept k d).column ≡ a + k)
 columns-exact zero a kept o low all few = (omega arith, λ k d l. absurd (omega arith))
@@ -94,69 +94,29 @@ columns-exact {R} (suc n) a (p ∷ kept) o low all few = step (all a (omega arit
         place (suc k) d l = omega (arith, rest.1 k d (omega arith))
 
 module _ {R : Type 0} {ring : RingOf R} (laws : IsRing ring) where
-  -- ---- the identity
-
-  pub unit-entry : (n r j : ℕ) → j < n → entry ring (unit_row ring n r) j ≡ cond (r == j + 1) ring.one ring.zero
-  unit-entry n r j l = get_or-map-range_with_len (λ c. cond (r == c) ring.one ring.zero) 1 n j (j + 1) ring.zero l (omega arith)
-
-  pub unit-one : (n k : ℕ) → k < n → entry ring (unit_row ring n (k + 1)) k ≡ ring.one
-  unit-one n k l = unit-entry n (k + 1) k l ∙ ap (λ b. cond b ring.one ring.zero) (eq-eqb (k + 1) (k + 1) refl)
-
-  pub unit-zero : (n k j : ℕ) → j < n → k ≢ j → entry ring (unit_row ring n (k + 1)) j ≡ ring.zero
-  unit-zero n k j l ne = unit-entry n (k + 1) j l ∙ ap (λ b. cond b ring.one ring.zero) (ne_eqb (k + 1) (j + 1) (λ e. ne (omega (arith, e))))
-
-  pub unit-is_row : (n r : ℕ) → IsRow ring n (unit_row ring n r)
-  unit-is_row n r = (length-map-range_with_len (λ c. cond (r == c) ring.one ring.zero) 1 n, All-map ring.IsValue (λ c. cond (r == c) ring.one ring.zero) (one_to n) (λ k d l. value (r == get_or (one_to n) k d)))
-    where
-      value : (b : Bool) → ring.IsValue (cond b ring.one ring.zero)
-      value true = laws.one_value
-      value false = laws.zero_value
-
-  abbrev pub identity_rows : ℕ → List (List R)
-  identity_rows n = map (unit_row ring n) (one_to n)
-
-  pub identity-length : (n : ℕ) → length (identity_rows n) ≡ n
-  identity-length n = length-map-range_with_len (unit_row ring n) 1 n
-
-  pub identity-at : (n k : ℕ) (d : List R) → k < n → get_or (identity_rows n) k d ≡ unit_row ring n (k + 1)
-  identity-at n k d l = get_or-map-range_with_len (unit_row ring n) 1 n k (k + 1) d l (omega arith)
-
-  pub identity-are : (n : ℕ) → All (IsRow ring n) (identity_rows n)
-  identity-are n = λ k d l. subst (IsRow ring n) (sym (identity-at n k d (subst (λ m. k < m) (identity-length n) l))) (unit-is_row n (k + 1))
-
-  -- zeros with 1 at a place
-  pub set-unit : (n k : ℕ) → k < n → slice_set (zero_row ring n) k ring.one ≡ unit_row ring n (k + 1)
-  set-unit n k l =
-      let z = zeros-row laws n in
-      row-ext ring n _ _ (length-set (zero_row ring n) k ring.one ∙ z.0) (unit-is_row n (k + 1)).0 (λ j h. at j h (cases_eq k j))
-    where
-      at : (j : ℕ) → j < n → (k ≡ j) ⊎ (k ≢ j) → entry ring (slice_set (zero_row ring n) k ring.one) j ≡ entry ring (unit_row ring n (k + 1)) j
-      at j h (inl e) =
-          ap (entry ring (slice_set (zero_row ring n) k ring.one)) (sym e) ∙ get_or-set_same (zero_row ring n) k ring.one ring.zero (subst (λ i. k < i) (sym (zeros-row laws n).0) l)
-          ∙ sym (unit-one n k l) ∙ ap (entry ring (unit_row ring n (k + 1))) e
-      at j h (inr ne) = get_or-set_other (zero_row ring n) k j ring.one ring.zero (λ e. ne (sym e)) ∙ entry-zeros laws n j h ∙ sym (unit-zero n k j h ne)
-
   -- a row times the identity is the row
-  pub times-identity : (n : ℕ) (cs : List R) → IsRow ring n cs → row_times ring n cs (identity_rows n) ≡ cs
+  pub times-identity : (n : ℕ) (cs : List R) → IsRow ring n cs → row_times ring n cs (identity_rows ring n) ≡ cs
   times-identity n cs r =
-      row-ext ring n _ cs (times-row laws n cs (identity_rows n) r.1 (identity-are n)).0 r.0 (λ j l.
+      row-ext ring n _ cs (times-row laws n cs (identity_rows ring n) r.1 (identity-are laws n)).0 r.0 (λ j l.
       let f = λ (row : List R). entry ring row j in
-      let at : (k : ℕ) → k < n → entry ring (map f (identity_rows n)) k ≡ entry ring (unit_row ring n (k + 1)) j =
-      λ k m. get_or-map f (identity_rows n) k [] ring.zero (subst (λ i. k < i) (sym (identity-length n)) m) ∙ ap f (identity-at n k [] m) in
-      let column_row : IsRow ring n (map f (identity_rows n)) = (length-map (identity_rows n) f ∙ identity-length n, All-map ring.IsValue f (identity_rows n) (λ k d m. entry-value laws n _ j l (identity-are n k d m))) in
-      entry-times laws n cs (identity_rows n) j l r.1 (identity-are n)
-      ∙ dot-single laws n cs (map f (identity_rows n)) j r column_row l (λ k m ne. ap (ring.mul (entry ring cs k)) (at k m ∙ unit-zero n k j l ne) ∙ mul_zero laws _ (entry-value laws n cs k m r))
-      ∙ ap (ring.mul (entry ring cs j)) (at j l ∙ unit-one n j l) ∙ laws.mul_one _ (entry-value laws n cs j l r))
+      let at : (k : ℕ) → k < n → entry ring (map f (identity_rows ring n)) k ≡ entry ring (unit_row ring n (k + 1)) j =
+      λ k m. get_or-map f (identity_rows ring n) k [] ring.zero (subst (λ i. k < i) (sym (identity-length ring n)) m) ∙ ap f (identity-at ring n k [] m) in
+      let column_row : IsRow ring n (map f (identity_rows ring n)) = (length-map (identity_rows ring n) f ∙ identity-length ring n, All-map ring.IsValue f (identity_rows ring n) (λ k d m. entry-value laws n _ j l (identity-are laws n k d m))) in
+      entry-times laws n cs (identity_rows ring n) j l r.1 (identity-are laws n)
+      ∙ dot-single laws n cs (map f (identity_rows ring n)) j r column_row l (λ k m ne. ap (ring.mul (entry ring cs k)) (at k m ∙ unit-zero laws n k j l ne) ∙ mul_zero laws _ (entry-value laws n cs k m r))
+      ∙ ap (ring.mul (entry ring cs j)) (at j l ∙ unit-one laws n j l) ∙ laws.mul_one _ (entry-value laws n cs j l r))
 
   -- ---- rows side by side
 
-  plus-append : (a b c d : List R) → length a ≡ length c → row_plus ring (a ++ b) (c ++ d) ≡ row_plus ring a c ++ row_plus ring b d
+  plus-append : (a b c d : List R) → length a ≡ length c
+      → row_plus ring (a ++ b) (c ++ d) ≡ row_plus ring a c ++ row_plus ring b d
   plus-append [] b [] d e = refl
   plus-append [] b (y ∷ c) d e = absurd (omega (arith, e))
   plus-append (x ∷ a) b [] d e = absurd (omega (arith, e))
-  plus-append (x ∷ a) b (y ∷ c) d e = ap (λ s. ring.add x y ∷ s) (plus-append a b c d (down _ _ e))
+  plus-append (x ∷ a) b (y ∷ c) d e = ap (λ s. ring.add x y ∷ s) (plus-append a b c d (omega (arith, e)))
 
-  pub times-joined : (n m : ℕ) (cs : List R) (rows others : List (List R)) → length rows ≡ length others → length cs ≡ length rows → All ring.IsValue cs → All (IsRow ring n) rows → All (IsRow ring m) others
+  pub times-joined : (n m : ℕ) (cs : List R) (rows others : List (List R)) → length rows ≡ length others
+      → length cs ≡ length rows → All ring.IsValue cs → All (IsRow ring n) rows → All (IsRow ring m) others
       → row_times ring (n + m) cs (joined ring rows others) ≡ row_times ring n cs rows ++ row_times ring m cs others
   times-joined n m [] rows others e f v p q = sym (replicate-append-replicate n m ring.zero)
   times-joined n m (c ∷ cs) [] others e f v p q = absurd (omega (arith, f))
@@ -167,11 +127,12 @@ module _ {R : Type 0} {ring : RingOf R} (laws : IsRing ring) where
       let ra = All-head (IsRow ring n) a rows p in
       let pt = All-tail (IsRow ring n) a rows p in
       let g = map-append (ring.mul c) a b in
-      let h = times-joined n m cs rows others (down _ _ e) (down _ _ f) vt pt (All-tail (IsRow ring m) b others q) in
+      let h = times-joined n m cs rows others (omega (arith, e)) (omega (arith, f)) vt pt (All-tail (IsRow ring m) b others q) in
       (λ i. row_plus ring (g i) (h i))
       ∙ plus-append (row_scale ring c a) (row_scale ring c b) (row_times ring n cs rows) (row_times ring m cs others) ((scale-row laws n c a vc ra).0 ∙ sym (times-row laws n cs rows vt pt).0)
 
-  pub joined-are : (n m : ℕ) (rows others : List (List R)) → All (IsRow ring n) rows → All (IsRow ring m) others → All (IsRow ring (n + m)) (joined ring rows others)
+  pub joined-are : (n m : ℕ) (rows others : List (List R)) → All (IsRow ring n) rows → All (IsRow ring m) others
+      → All (IsRow ring (n + m)) (joined ring rows others)
   joined-are n m [] others p q = All-nil (IsRow ring (n + m))
   joined-are n m (a ∷ rows) [] p q = All-nil (IsRow ring (n + m))
   joined-are n m (a ∷ rows) (b ∷ others) p q =
@@ -184,7 +145,8 @@ module _ {R : Type 0} {ring : RingOf R} (laws : IsRing ring) where
   -- ---- products
 
   -- the entries of a product are those of the combination
-  pub product-row : (row : List R) (m : Matrix R) → IsMatrix ring m → IsRow ring (length m.rows) row → map (λ c. dot_of ring row (column ring m c)) (one_to m.cols) ≡ row_times ring m.cols row m.rows
+  pub product-row : (row : List R) (m : Matrix R) → IsMatrix ring m → IsRow ring (length m.rows) row
+      → map (λ c. dot_of ring row (column ring m c)) (one_to m.cols) ≡ row_times ring m.cols row m.rows
   product-row row m are r =
       row-ext ring m.cols _ _ (length-map-range_with_len (λ c. dot_of ring row (column ring m c)) 1 m.cols) (times-row laws m.cols row m.rows r.1 are).0 (λ j l.
       get_or-map-range_with_len (λ c. dot_of ring row (column ring m c)) 1 m.cols j (j + 1) ring.zero l (omega arith)
@@ -195,124 +157,135 @@ module _ {R : Type 0} {ring : RingOf R} (laws : IsRing ring) where
       back j = omega arith
 
   -- a product is the identity exactly where its rows are
-  pub product-identity : (a m : Matrix R) (n : ℕ) → IsMatrix ring m → m.cols ≡ n → length m.rows ≡ n → length a.rows ≡ n → All (IsRow ring n) a.rows
-      → ((k : ℕ) (d : List R) → k < n → row_times ring n (get_or a.rows k d) m.rows ≡ unit_row ring n (k + 1)) → matrix_product ring a m ≡ identity_matrix ring n
+  pub product-identity : (a m : Matrix R) (n : ℕ) → IsMatrix ring m → m.cols ≡ n → length m.rows ≡ n → length a.rows ≡ n
+      → All (IsRow ring n) a.rows
+      → ((k : ℕ) (d : List R) → k < n → row_times ring n (get_or a.rows k d) m.rows ≡ unit_row ring n (k + 1))
+      → matrix_product ring a m ≡ identity_matrix ring n
   product-identity a m n are cols many long rows h = λ i. record { cols = cols i; rows = same i }
     where
       f : List R → List R
       f row = map (λ c. dot_of ring row (column ring m c)) (one_to m.cols)
 
-      same : map (λ row. map (λ c. dot_of ring row (column ring m c)) (one_to m.cols)) a.rows ≡ map (unit_row ring n) (one_to n)
-      same = same_lists _ _ (length-map a.rows f ∙ long ∙ sym (identity-length n)) (λ k d l.
+      same : map (λ row. map (λ c. dot_of ring row (column ring m c)) (one_to m.cols)) a.rows
+          ≡ map (unit_row ring n) (one_to n)
+      same = same_lists _ _ (length-map a.rows f ∙ long ∙ sym (identity-length ring n)) (λ k d l.
           let inside : k < length a.rows = subst (λ i. k < i) (length-map a.rows f) l in
           let below : k < n = subst (λ i. k < i) long inside in
           get_or-map f a.rows k d d inside
           ∙ product-row (get_or a.rows k d) m are (subst (λ i. IsRow ring i (get_or a.rows k d)) (sym many) (rows k d inside))
-          ∙ ap (λ w. row_times ring w (get_or a.rows k d) m.rows) cols ∙ h k d below ∙ sym (identity-at n k d below))
+          ∙ ap (λ w. row_times ring w (get_or a.rows k d) m.rows) cols ∙ h k d below ∙ sym (identity-at ring n k d below))
 
-  pub identity-product : (a m : Matrix R) (n : ℕ) → IsMatrix ring m → m.cols ≡ n → length m.rows ≡ n → length a.rows ≡ n → All (IsRow ring n) a.rows → matrix_product ring a m ≡ identity_matrix ring n
+  pub identity-product : (a m : Matrix R) (n : ℕ) → IsMatrix ring m → m.cols ≡ n → length m.rows ≡ n → length a.rows ≡ n
+      → All (IsRow ring n) a.rows → matrix_product ring a m ≡ identity_matrix ring n
       → (k : ℕ) (d : List R) → k < n → row_times ring n (get_or a.rows k d) m.rows ≡ unit_row ring n (k + 1)
   identity-product a m n are cols many long rows e k d below =
       let f = λ (row : List R). map (λ c. dot_of ring row (column ring m c)) (one_to m.cols) in
       let inside : k < length a.rows = subst (λ i. k < i) (sym long) below in
       ap (λ w. row_times ring w (get_or a.rows k d) m.rows) (sym cols)
       ∙ sym (product-row (get_or a.rows k d) m are (subst (λ i. IsRow ring i (get_or a.rows k d)) (sym many) (rows k d inside)))
-      ∙ sym (get_or-map f a.rows k d d inside) ∙ ap (λ (p : Matrix R). get_or p.rows k d) e ∙ identity-at n k d below
+      ∙ sym (get_or-map f a.rows k d d inside) ∙ ap (λ (p : Matrix R). get_or p.rows k d) e ∙ identity-at ring n k d below
 
   -- ---- from the reduced rows
 
   module _ (m : Matrix R) (kept : List (PivotRow R)) (are : IsMatrix ring m) (square : length m.rows ≡ m.cols) (is : IsReduced ring (m.cols + m.cols) kept)
-      (same : HaveSameSpan ring (m.cols + m.cols) (joined ring m.rows (identity_rows m.cols)) (rows_of ring kept)) where
+      (same : HaveSameSpan ring (m.cols + m.cols) (joined ring m.rows (identity_rows ring m.cols)) (rows_of ring kept)) where
     abbrev pub right_parts : List (List R)
     right_parts = map (λ p. drop m.cols p.entries) kept
 
-    wide-are : All (IsRow ring (m.cols + m.cols)) (joined ring m.rows (identity_rows m.cols))
-    wide-are = joined-are m.cols m.cols m.rows (identity_rows m.cols) are (identity-are m.cols)
+    wide-are : All (IsRow ring (m.cols + m.cols)) (joined ring m.rows (identity_rows ring m.cols))
+    wide-are = joined-are m.cols m.cols m.rows (identity_rows ring m.cols) are (identity-are laws m.cols)
 
-    both-long : length m.rows ≡ length (identity_rows m.cols)
-    both-long = square ∙ sym (identity-length m.cols)
+    both-long : length m.rows ≡ length (identity_rows ring m.cols)
+    both-long = square ∙ sym (identity-length ring m.cols)
 
     -- a row of coefficients gives a member of the span
-    wide-times : (cs : List R) → IsRow ring m.cols cs → row_times ring (m.cols + m.cols) cs (joined ring m.rows (identity_rows m.cols)) ≡ row_times ring m.cols cs m.rows ++ cs
+    wide-times : (cs : List R) → IsRow ring m.cols cs
+        → row_times ring (m.cols + m.cols) cs (joined ring m.rows (identity_rows ring m.cols))
+        ≡ row_times ring m.cols cs m.rows ++ cs
     wide-times cs r =
-        times-joined m.cols m.cols cs m.rows (identity_rows m.cols) both-long (r.0 ∙ sym square) r.1 are (identity-are m.cols)
+        times-joined m.cols m.cols cs m.rows (identity_rows ring m.cols) both-long (r.0 ∙ sym square) r.1 are (identity-are laws m.cols)
         ∙ ap (λ s. row_times ring m.cols cs m.rows ++ s) (times-identity m.cols cs r)
 
     module _ (full : length kept ≡ m.cols) (placed : (k : ℕ) (d : PivotRow R) → k < m.cols → (get_or kept k d).column ≡ k) where
       n : ℕ
       n = m.cols
 
-      left-part : (k : ℕ) (d : PivotRow R) → k < m.cols → take m.cols (get_or kept k d).entries ≡ unit_row ring m.cols (k + 1)
+      left-part : (k : ℕ) (d : PivotRow R) → k < m.cols
+          → take m.cols (get_or kept k d).entries ≡ unit_row ring m.cols (k + 1)
       left-part k d l =
           let u = reduced-units laws (m.cols + m.cols) kept is in
           let inside : k < length kept = subst (λ i. k < i) (sym full) l in
           let row = (is.each _ (Contains-get_or kept k d inside)).row in
-          row-ext ring m.cols _ _ (length-front m.cols m.cols _ row.0) (unit-is_row m.cols (k + 1)).0 (λ j h. get_or-take m.cols _ j ring.zero h ∙ at j h (cases_eq k j))
+          row-ext ring m.cols _ _ (length-front m.cols m.cols _ row.0) (unit-row laws m.cols (k + 1)).0 (λ j h. get_or-take m.cols _ j ring.zero h ∙ at j h (cases_eq k j))
         where
-          at : (j : ℕ) → j < m.cols → (k ≡ j) ⊎ (k ≢ j) → entry ring (get_or kept k d).entries j ≡ entry ring (unit_row ring m.cols (k + 1)) j
+          at : (j : ℕ) → j < m.cols → (k ≡ j) ⊎ (k ≢ j)
+              → entry ring (get_or kept k d).entries j ≡ entry ring (unit_row ring m.cols (k + 1)) j
           at j h (inl e) =
               let u = reduced-units laws (m.cols + m.cols) kept is in
               ap (entry ring (get_or kept k d).entries) (sym (placed k d l ∙ e)) ∙ u.one k d (subst (λ i. k < i) (sym full) l)
-              ∙ sym (unit-one m.cols k l) ∙ ap (entry ring (unit_row ring m.cols (k + 1))) e
+              ∙ sym (unit-one laws m.cols k l) ∙ ap (entry ring (unit_row ring m.cols (k + 1))) e
           at j h (inr ne) =
               let u = reduced-units laws (m.cols + m.cols) kept is in
               ap (entry ring (get_or kept k d).entries) (sym (placed j d h)) ∙ u.others k j d (subst (λ i. k < i) (sym full) l) (subst (λ i. j < i) (sym full) h) ne
-              ∙ sym (unit-zero m.cols k j h ne)
+              ∙ sym (unit-zero laws m.cols k j h ne)
 
       pub parts-are : All (IsRow ring m.cols) right_parts
       parts-are = All-map (IsRow ring m.cols) (λ (p : PivotRow R). drop m.cols p.entries) kept (λ k d l. (let row = (is.each _ (Contains-get_or kept k d l)).row in (length-rest m.cols m.cols _ row.0, All-rest ring.IsValue m.cols _ row.1)))
 
       -- the right part of a row has its left part as product with m
-      left-product : (k : ℕ) (d : PivotRow R) → k < m.cols → row_times ring m.cols (drop m.cols (get_or kept k d).entries) m.rows ≡ unit_row ring m.cols (k + 1)
+      left-product : (k : ℕ) (d : PivotRow R) → k < m.cols
+          → row_times ring m.cols (drop m.cols (get_or kept k d).entries) m.rows ≡ unit_row ring m.cols (k + 1)
       left-product k d l =
           let inside : k < length kept = subst (λ i. k < i) (sym full) l in
           let p = get_or kept k d in
           let c = (same p.entries).1 (span-member laws (m.cols + m.cols) (rows_of ring kept) p.entries (reduced-rows laws (m.cols + m.cols) kept is) (entry-member k d inside)) in
-          let many : length (joined ring m.rows (identity_rows m.cols)) ≡ m.cols = length-joined ring m.rows (identity_rows m.cols) both-long ∙ square in
+          let many : length (joined ring m.rows (identity_rows ring m.cols)) ≡ m.cols = length-joined ring m.rows (identity_rows ring m.cols) both-long ∙ square in
           let cs : IsRow ring m.cols c.0 = (c.1.0 ∙ many, c.1.1) in
           let whole : p.entries ≡ row_times ring m.cols c.0 m.rows ++ c.0 = c.2 ∙ wide-times c.0 cs in
           let front : length (row_times ring m.cols c.0 m.rows) ≡ m.cols = (times-row laws m.cols c.0 m.rows c.1.1 are).0 in
           let right : drop m.cols p.entries ≡ c.0 = ap (drop m.cols) whole ∙ drop-front (row_times ring m.cols c.0 m.rows) c.0 m.cols front in
           ap (λ s. row_times ring m.cols s m.rows) right ∙ sym (ap (take m.cols) whole ∙ take-front (row_times ring m.cols c.0 m.rows) c.0 m.cols front) ∙ left-part k d l
         where
-          entry-member : (k : ℕ) (d : PivotRow R) → k < length kept → Contains (rows_of ring kept) (get_or kept k d).entries
+          entry-member : (k : ℕ) (d : PivotRow R) → k < length kept
+              → Contains (rows_of ring kept) (get_or kept k d).entries
           entry-member k d l = subst (Contains (rows_of ring kept)) (get_or-map (λ (p : PivotRow R). p.entries) kept k d d.entries l) (Contains-get_or (rows_of ring kept) k d.entries (subst (λ i. k < i) (sym (length-map kept (λ (p : PivotRow R). p.entries))) l))
 
       -- the rows are the identity and the right parts side by side
-      kept-joined : rows_of ring kept ≡ joined ring (identity_rows m.cols) right_parts
+      kept-joined : rows_of ring kept ≡ joined ring (identity_rows ring m.cols) right_parts
       kept-joined =
-          let long : length (identity_rows m.cols) ≡ length right_parts = identity-length m.cols ∙ sym (length-map kept (λ (p : PivotRow R). drop m.cols p.entries) ∙ full) in
-          same_lists _ _ (length-map kept (λ (p : PivotRow R). p.entries) ∙ full ∙ sym (length-joined ring (identity_rows m.cols) right_parts long ∙ identity-length m.cols)) (λ k d l.
+          let long : length (identity_rows ring m.cols) ≡ length right_parts = identity-length ring m.cols ∙ sym (length-map kept (λ (p : PivotRow R). drop m.cols p.entries) ∙ full) in
+          same_lists _ _ (length-map kept (λ (p : PivotRow R). p.entries) ∙ full ∙ sym (length-joined ring (identity_rows ring m.cols) right_parts long ∙ identity-length ring m.cols)) (λ k d l.
           let none : PivotRow R = record { column = 0; entries = [] } in
           let inside : k < length kept = subst (λ i. k < i) (length-map kept (λ (p : PivotRow R). p.entries)) l in
           let below : k < m.cols = subst (λ i. k < i) full inside in
           get_or-map (λ (p : PivotRow R). p.entries) kept k none d inside
           ∙ sym (take-append-drop m.cols (get_or kept k none).entries) ∙ ap (λ s. s ++ drop m.cols (get_or kept k none).entries) (left-part k none below)
-          ∙ (λ i. sym (identity-at m.cols k [] below) i ++ sym (get_or-map (λ (p : PivotRow R). drop m.cols p.entries) kept k none [] inside) i)
-          ∙ sym (get_or-joined ring (identity_rows m.cols) right_parts k d [] [] long (subst (λ i. k < i) (sym (identity-length m.cols)) below)))
+          ∙ (λ i. sym (identity-at ring m.cols k [] below) i ++ sym (get_or-map (λ (p : PivotRow R). drop m.cols p.entries) kept k none [] inside) i)
+          ∙ sym (get_or-joined ring (identity_rows ring m.cols) right_parts k d [] [] long (subst (λ i. k < i) (sym (identity-length ring m.cols)) below)))
 
-      right-product : (k : ℕ) (d : List R) → k < m.cols → row_times ring m.cols (get_or m.rows k d) right_parts ≡ unit_row ring m.cols (k + 1)
+      right-product : (k : ℕ) (d : List R) → k < m.cols
+          → row_times ring m.cols (get_or m.rows k d) right_parts ≡ unit_row ring m.cols (k + 1)
       right-product k d l =
           let inside : k < length m.rows = subst (λ i. k < i) (sym square) l in
           let a = get_or m.rows k d in
           let ra = are k d inside in
           let e = unit_row ring m.cols (k + 1) in
           let v = a ++ e in
-          let at_v : get_or (joined ring m.rows (identity_rows m.cols)) k [] ≡ v = get_or-joined ring m.rows (identity_rows m.cols) k [] d [] both-long inside ∙ ap (λ s. a ++ s) (identity-at m.cols k [] l) in
-          let in_wide : k < length (joined ring m.rows (identity_rows m.cols)) = subst (λ i. k < i) (sym (length-joined ring m.rows (identity_rows m.cols) both-long)) inside in
+          let at_v : get_or (joined ring m.rows (identity_rows ring m.cols)) k [] ≡ v = get_or-joined ring m.rows (identity_rows ring m.cols) k [] d [] both-long inside ∙ ap (λ s. a ++ s) (identity-at ring m.cols k [] l) in
+          let in_wide : k < length (joined ring m.rows (identity_rows ring m.cols)) = subst (λ i. k < i) (sym (length-joined ring m.rows (identity_rows ring m.cols) both-long)) inside in
           let rv : IsRow ring (m.cols + m.cols) v = subst (IsRow ring (m.cols + m.cols)) at_v (wide-are k [] in_wide) in
           let member : IsCombination ring (m.cols + m.cols) (rows_of ring kept) v =
-          (same v).0 (span-member laws (m.cols + m.cols) (joined ring m.rows (identity_rows m.cols)) v wide-are (subst (Contains (joined ring m.rows (identity_rows m.cols))) at_v (Contains-get_or (joined ring m.rows (identity_rows m.cols)) k [] in_wide))) in
+          (same v).0 (span-member laws (m.cols + m.cols) (joined ring m.rows (identity_rows ring m.cols)) v wide-are (subst (Contains (joined ring m.rows (identity_rows ring m.cols))) at_v (Contains-get_or (joined ring m.rows (identity_rows ring m.cols)) k [] in_wide))) in
           let u = reduced-units laws (m.cols + m.cols) kept is in
           let coefficients : at_units laws (m.cols + m.cols) kept u v ≡ a =
           row-ext ring m.cols _ a (length-map kept (λ (p : PivotRow R). entry ring v p.column) ∙ full) ra.0 (λ j h.
           let none : PivotRow R = record { column = 0; entries = [] } in
           get_or-map (λ (p : PivotRow R). entry ring v p.column) kept j none ring.zero (subst (λ i. j < i) (sym full) h) ∙ ap (entry ring v) (placed j none h)
           ∙ get_or-front a e j ring.zero (subst (λ i. j < i) (sym ra.0) h)) in
-          let parts_long : length (identity_rows m.cols) ≡ length right_parts = identity-length m.cols ∙ sym (length-map kept (λ (p : PivotRow R). drop m.cols p.entries) ∙ full) in
+          let parts_long : length (identity_rows ring m.cols) ≡ length right_parts = identity-length ring m.cols ∙ sym (length-map kept (λ (p : PivotRow R). drop m.cols p.entries) ∙ full) in
           let whole : v ≡ a ++ row_times ring m.cols a right_parts =
           (in_span-test laws (m.cols + m.cols) kept u v rv).0 member ∙ (λ i. row_times ring (m.cols + m.cols) (coefficients i) (kept-joined i))
-          ∙ times-joined m.cols m.cols a (identity_rows m.cols) right_parts parts_long (ra.0 ∙ sym (identity-length m.cols)) ra.1 (identity-are m.cols) parts-are
+          ∙ times-joined m.cols m.cols a (identity_rows ring m.cols) right_parts parts_long (ra.0 ∙ sym (identity-length ring m.cols)) ra.1 (identity-are laws m.cols) parts-are
           ∙ ap (λ s. s ++ row_times ring m.cols a right_parts) (times-identity m.cols a ra) in
           sym (drop-front a (row_times ring m.cols a right_parts) m.cols ra.0) ∙ ap (drop m.cols) (sym whole) ∙ drop-front a e m.cols ra.0
 
@@ -331,18 +304,20 @@ module _ {R : Type 0} {ring : RingOf R} (laws : IsRing ring) where
           }
 
 module _ {R : Type 0} {ring : RingOf R} {inverse : R → R} (field : IsField ring inverse) (m : Matrix R) (kept : List (PivotRow R)) (are : IsMatrix ring m) (square : length m.rows ≡ m.cols)
-    (is : IsReduced ring (m.cols + m.cols) kept) (same : HaveSameSpan ring (m.cols + m.cols) (joined ring m.rows (identity_rows field.is_ring m.cols)) (rows_of ring kept)) where
+    (is : IsReduced ring (m.cols + m.cols) kept) (same : HaveSameSpan ring (m.cols + m.cols) (joined ring m.rows (identity_rows ring m.cols)) (rows_of ring kept)) where
   -- With an inverse each of the first columns has a pivot.
-  first-pivot : (x : Matrix R) → IsInverse ring m x → (k : ℕ) → k < m.cols → (p : PivotRow R) × Contains kept p × (p.column ≡ k)
+  first-pivot : (x : Matrix R) → IsInverse ring m x → (k : ℕ) → k < m.cols
+      → (p : PivotRow R) × Contains kept p × (p.column ≡ k)
   first-pivot x inv k l = step (find_pivot field.is_ring kept k)
     where
-      step : ((p : PivotRow R) × Contains kept p × (p.column ≡ k)) ⊎ ((p : PivotRow R) → Contains kept p → p.column ≢ k) → (p : PivotRow R) × Contains kept p × (p.column ≡ k)
+      step : ((p : PivotRow R) × Contains kept p × (p.column ≡ k)) ⊎ ((p : PivotRow R) → Contains kept p → p.column ≢ k)
+          → (p : PivotRow R) × Contains kept p × (p.column ≡ k)
       step (inl w) = w
       step (inr none) =
           let L = field.is_ring in
           let n = m.cols in
           let wide = m.cols + m.cols in
-          let rows = joined ring m.rows (identity_rows L m.cols) in
+          let rows = joined ring m.rows (identity_rows ring m.cols) in
           let long : length x.rows ≡ m.cols = inv.square.1 ∙ square in
           let x_are : All (IsRow ring m.cols) x.rows = subst (λ i. All (IsRow ring i) x.rows) inv.square.0 inv.matrix in
           let cs = get_or x.rows k [] in
@@ -350,11 +325,11 @@ module _ {R : Type 0} {ring : RingOf R} {inverse : R → R} (field : IsField rin
           let e = unit_row ring m.cols (k + 1) in
           let v = e ++ cs in
           let times : row_times ring m.cols cs m.rows ≡ e = identity-product L x m m.cols are refl square long x_are inv.left k [] l in
-          let both_long : length m.rows ≡ length (identity_rows L m.cols) = square ∙ sym (identity-length L m.cols) in
+          let both_long : length m.rows ≡ length (identity_rows ring m.cols) = square ∙ sym (identity-length ring m.cols) in
           let whole : v ≡ row_times ring wide cs rows =
-          sym (times-joined L m.cols m.cols cs m.rows (identity_rows L m.cols) both_long (rc.0 ∙ sym square) rc.1 are (identity-are L m.cols)
+          sym (times-joined L m.cols m.cols cs m.rows (identity_rows ring m.cols) both_long (rc.0 ∙ sym square) rc.1 are (identity-are L m.cols)
           ∙ (λ i. times i ++ times-identity L m.cols cs rc i)) in
-          let many : length rows ≡ m.cols = length-joined ring m.rows (identity_rows L m.cols) both_long ∙ square in
+          let many : length rows ≡ m.cols = length-joined ring m.rows (identity_rows ring m.cols) both_long ∙ square in
           let member : IsCombination ring wide (rows_of ring kept) v = (same v).0 (cs, (rc.0 ∙ sym many, rc.1), whole) in
           let kept_are = reduced-rows L wide kept is in
           let rv = combination-row L wide (rows_of ring kept) v kept_are member in
@@ -369,10 +344,12 @@ module _ {R : Type 0} {ring : RingOf R} {inverse : R → R} (field : IsField rin
           ap (λ s. entry ring s k) ((in_span-test L wide kept u v rv).0 member)
           ∙ entry-times L wide ds (rows_of ring kept) k in_wide rd.1 kept_are
           ∙ dot-none L (length kept) ds (map f (rows_of ring kept)) rd column_row (λ h i. vanish v cs h i rc rd column_row refl) in
-          absurd (field.one_zero (sym (get_or-front e cs k ring.zero (subst (λ i. k < i) (sym (unit-is_row L m.cols (k + 1)).0) l) ∙ unit-one L m.cols k l) ∙ nothing))
+          absurd (field.one_zero (sym (get_or-front e cs k ring.zero (subst (λ i. k < i) (sym (unit-row L m.cols (k + 1)).0) l) ∙ unit-one L m.cols k l) ∙ nothing))
         where
-          vanish : (v cs : List R) (h : ℕ) → h < length kept → IsRow ring m.cols cs → IsRow ring (length kept) (map (λ (p : PivotRow R). entry ring v p.column) kept)
-              → IsRow ring (length kept) (map (λ row. entry ring row k) (rows_of ring kept)) → v ≡ unit_row ring m.cols (k + 1) ++ cs
+          vanish : (v cs : List R) (h : ℕ) → h < length kept → IsRow ring m.cols cs
+              → IsRow ring (length kept) (map (λ (p : PivotRow R). entry ring v p.column) kept)
+              → IsRow ring (length kept) (map (λ row. entry ring row k) (rows_of ring kept))
+              → v ≡ unit_row ring m.cols (k + 1) ++ cs
               → ring.mul (entry ring (map (λ (p : PivotRow R). entry ring v p.column) kept) h) (entry ring (map (λ row. entry ring row k) (rows_of ring kept)) h) ≡ ring.zero
           vanish v cs h i rc rd rk e =
               let d : PivotRow R = record { column = 0; entries = [] } in
@@ -382,16 +359,19 @@ module _ {R : Type 0} {ring : RingOf R} {inverse : R → R} (field : IsField rin
               ∙ ap (λ row. entry ring row k) (get_or-map (λ (p : PivotRow R). p.entries) kept h d [] i) in
               sides (cases_lt p.column k) first second
             where
-              sides : ((get_or kept h record { column = 0; entries = [] }).column < k) ⊎ (k ≤ (get_or kept h record { column = 0; entries = [] }).column)
-                  → entry ring (map (λ (p : PivotRow R). entry ring v p.column) kept) h ≡ entry ring v (get_or kept h record { column = 0; entries = [] }).column
-                  → entry ring (map (λ row. entry ring row k) (rows_of ring kept)) h ≡ entry ring (get_or kept h record { column = 0; entries = [] }).entries k
+              sides : ((get_or kept h record { column = 0; entries = [] }).column < k)
+                  ⊎ (k ≤ (get_or kept h record { column = 0; entries = [] }).column)
+                  → entry ring (map (λ (p : PivotRow R). entry ring v p.column) kept) h
+                  ≡ entry ring v (get_or kept h record { column = 0; entries = [] }).column
+                  → entry ring (map (λ row. entry ring row k) (rows_of ring kept)) h
+                  ≡ entry ring (get_or kept h record { column = 0; entries = [] }).entries k
                   → ring.mul (entry ring (map (λ (p : PivotRow R). entry ring v p.column) kept) h) (entry ring (map (λ row. entry ring row k) (rows_of ring kept)) h) ≡ ring.zero
               sides (inl low) first second =
                   let L = field.is_ring in
                   let p = get_or kept h record { column = 0; entries = [] } in
                   let inside : p.column < m.cols = omega (arith, low, l) in
                   let z : entry ring v p.column ≡ ring.zero =
-                  ap (λ s. entry ring s p.column) e ∙ get_or-front (unit_row ring m.cols (k + 1)) cs p.column ring.zero (subst (λ z. p.column < z) (sym (unit-is_row L m.cols (k + 1)).0) inside)
+                  ap (λ s. entry ring s p.column) e ∙ get_or-front (unit_row ring m.cols (k + 1)) cs p.column ring.zero (subst (λ z. p.column < z) (sym (unit-row L m.cols (k + 1)).0) inside)
                   ∙ unit-zero L m.cols k p.column inside (λ q. absurd (omega (arith, q, low))) in
                   ap (λ s. ring.mul s (entry ring (map (λ row. entry ring row k) (rows_of ring kept)) h)) (first ∙ z) ∙ zero_mul L _ (entry-value L (length kept) _ h i rk)
               sides (inr high) first second =
@@ -402,17 +382,18 @@ module _ {R : Type 0} {ring : RingOf R} {inverse : R → R} (field : IsField rin
                   ap (ring.mul (entry ring (map (λ (p : PivotRow R). entry ring v p.column) kept) h)) (second ∙ z) ∙ mul_zero L _ (entry-value L (length kept) _ h i rd)
 
   -- so the pivots are in the first columns, one in each
-  pub inverse-full : (x : Matrix R) → IsInverse ring m x → (length kept ≡ m.cols) × ((k : ℕ) (d : PivotRow R) → k < m.cols → (get_or kept k d).column ≡ k)
+  pub inverse-full : (x : Matrix R) → IsInverse ring m x
+      → (length kept ≡ m.cols) × ((k : ℕ) (d : PivotRow R) → k < m.cols → (get_or kept k d).column ≡ k)
   inverse-full x inv =
       let L = field.is_ring in
       let wide = m.cols + m.cols in
-      let rows = joined ring m.rows (identity_rows L m.cols) in
-      let both_long : length m.rows ≡ length (identity_rows L m.cols) = square ∙ sym (identity-length L m.cols) in
+      let rows = joined ring m.rows (identity_rows ring m.cols) in
+      let both_long : length m.rows ≡ length (identity_rows ring m.cols) = square ∙ sym (identity-length ring m.cols) in
       let few : length (rows_of ring kept) ≤ length rows =
-      independent-few field wide rows (rows_of ring kept) (joined-are L m.cols m.cols m.rows (identity_rows L m.cols) are (identity-are L m.cols))
+      independent-few field wide rows (rows_of ring kept) (joined-are L m.cols m.cols m.rows (identity_rows ring m.cols) are (identity-are L m.cols))
       (λ b c. (same b).1 (span-member L wide (rows_of ring kept) b (reduced-rows L wide kept is) c)) (units-independent L wide kept (reduced-units L wide kept is)) in
       let exact = columns-exact m.cols 0 kept (columns-rise L wide kept is) (λ p c. omega arith) (λ k low high. first-pivot x inv k (omega (arith, high)))
-      (omega (arith, few, length-map kept (λ (p : PivotRow R). p.entries), length-joined ring m.rows (identity_rows L m.cols) both_long, square)) in
+      (omega (arith, few, length-map kept (λ (p : PivotRow R). p.entries), length-joined ring m.rows (identity_rows ring m.cols) both_long, square)) in
       (exact.0, λ k d l. exact.1 k d l ∙ start k)
     where
       start : (k : ℕ) → 0 + k ≡ k
