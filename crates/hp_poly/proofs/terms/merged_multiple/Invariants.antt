@@ -1,0 +1,16 @@
+use Rattle.std.proofs.Common.{◌+◌, ◌≤◌, length}
+use Rattle.hp_mono.specs.Monomials.{degree, max_degree}
+use Rattle.hp_poly.specs.Polynomials.{from_greatest, multiple, poly_degree}
+use Rattle.hp_sums.proofs.Merges.{IsMerged}
+use Rattle.hp_poly.proofs.terms.merged_multiple.Given as goal
+
+abbrev pub invariant-loop-x : goal.invariant-loop-x
+invariant-loop-x g l =
+    let ring = g.F.Ring.ring in
+    let m = multiple ring l.c l.m in record {
+      degrees : degree l.m + poly_degree ring l.ys ≤ max_degree;
+      merged : IsMerged from_greatest ring l.left (m l.right) l.xs (m l.ys) l.out.items;
+    }
+
+abbrev pub decreases-loop-x : goal.decreases-loop-x
+decreases-loop-x g l = length l.xs + length l.ys

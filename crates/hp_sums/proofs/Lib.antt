@@ -1,0 +1,10 @@
+pub mod BilinearSums
+pub mod Collected
+pub mod EqualTotals
+pub mod FirstTerms
+pub mod Merges
+pub mod Rewriting
+pub mod SumLaws
+pub mod SumSetting
+pub mod SymbolLeads
+pub mod WeightedSums
