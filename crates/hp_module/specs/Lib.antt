@@ -1,0 +1,11 @@
+pub mod CriticalPairs
+pub mod Divisions
+pub mod ElimOrders
+pub mod EliminationLaws
+pub mod FreeModules
+pub mod InducedOrders
+pub mod LeadSearch
+pub mod Leads
+pub mod ReducedBases
+pub mod RowModules
+pub mod Vectors
