@@ -1,0 +1,2 @@
+pub mod ExactComplexes
+pub mod MatrixProducts
