@@ -1,0 +1,17 @@
+pub mod Broken
+pub mod Coatoms
+pub mod Exchange
+pub mod Expansion
+pub mod FlatSteps
+pub mod Listing
+pub mod Minors
+pub mod Nbc
+pub mod NbcCounts
+pub mod Recursion
+pub mod Restriction
+pub mod RisingLists
+pub mod RisingSets
+pub mod Signs
+pub mod Subsets
+pub mod Triple
+pub mod Whitney
