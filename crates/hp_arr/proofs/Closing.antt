@@ -3,20 +3,11 @@ use Rattle.std.proofs.Common.{◌≡◌, ◌↔◌, ℕ, ◌+◌, ◌<◌, ◌�
 use Rattle.std.proofs.lemmas.Bool.{cases_lt, and_parts, and_from}
 use Rattle.std.proofs.lemmas.List.{get_or_past, get_or_read, drop_more, drop_all}
 use Rattle.std.proofs.lemmas.List.Elements.{All-head, All-tail, All-cons, All-nil, All-get_or}
-use Rattle.std.proofs.Math.Seq.{drop-length}
 use Rattle.hp_algebra.specs.Ring.{RingOf, IsRing, IsDomain, dot_of}
-use Rattle.hp_algebra.proofs.Dots.{dot_of_value}
+use Rattle.hp_algebra.proofs.Dots.{dot_of_value, dot_of-nil}
 use Rattle.hp_algebra.proofs.Rings.{zero_mul, add_cancel, mul_cancel}
-use Rattle.hp_arr.specs.Arrangement.{is_zero_row}
+use Rattle.hp_algebra.specs.Rows.{is_zero_row}
 use Rattle.hp_arr.specs.PointSearch.{IsClosed}
-
-pub dot_of-nil : {K : Type 0} (ring : RingOf K) (f : List K) → dot_of ring f [] ≡ ring.zero
-dot_of-nil ring [] = refl
-dot_of-nil ring (c ∷ f) = refl
-
--- behind all coordinates there is nothing left
-pub dot_of-end : {K : Type 0} (ring : RingOf K) (f x : List K) → ring.zero ≡ dot_of ring f (drop (length x) x)
-dot_of-end ring f x = sym (dot_of-nil ring f) ∙ ap (dot_of ring f) (sym (drop-length x))
 
 -- what is left behind the prefix and one coordinate
 pub drop-snoc : {K : Type 0} (f prefix : List K) (v : K) → drop (length (prefix ++ v ∷ [])) f ≡ drop (length prefix + 1) f

@@ -6,17 +6,18 @@ use mathlib.Core.Logic.{inl, inr}
 use mathlib.Core.Path.{sym, ap, ◌∙◌, subst}
 use native.Mathlib.Omega.{arith}
 use Rattle.hp_algebra.specs.Ring.{RingOf, Numbering}
-use Rattle.hp_algebra.specs.Lists.{list_all}
-use Rattle.hp_algebra.proofs.Members.{second_true, Contains-later, Contains-cases, Contains-none, Contains-filter, filter-Contains, all-at, all-from, filter-ext}
-use Rattle.hp_algebra.proofs.Rising.{range_members, members_range}
+use Rattle.hp_lists.specs.Lists.{list_all}
+use Rattle.hp_lists.proofs.Members.{second_true, Contains-later, Contains-cases, Contains-none, Contains-filter, filter-Contains, all-at, all-from, filter-ext}
+use Rattle.hp_lists.proofs.Ranges.{range_members, members_range}
 use Rattle.hp_sets.specs.Sets.{Set, IsSetWithin, with_member}
 use Rattle.hp_sets.proofs.Parts.{IsPart}
 use Rattle.hp_sets.proofs.SetLaws.{set_members, set-wider, filter-set}
 use Rattle.hp_sets.proofs.SetMembers.{with-members, members-with}
-use Rattle.hp_arr.specs.Arrangement.{Arrangement, indices, lies_in, IsRow}
-use Rattle.hp_arr.specs.Flats.{points, cut, flat, IsFlat}
-use Rattle.hp_arr.proofs.OverField.{IsOverField}
-use Rattle.hp_arr.proofs.Points.{points-rows, rows-points}
+use Rattle.hp_arr.specs.Arrangement.{Arrangement, max_forms, indices, lies_in}
+use Rattle.hp_algebra.specs.Rows.{IsRow}
+use Rattle.hp_arr.specs.Flats.{points, cut, closure, IsFlat}
+use Rattle.hp_arr.proofs.OverField.{IsOverField, field_of}
+use Rattle.hp_arr.proofs.SpacePoints.{points-rows, rows-points}
 use Rattle.hp_arr.proofs.Counting.{lies_in_all}
 
 -- ---- sets of indices
@@ -57,15 +58,15 @@ module _ {K : Type 0} {ring : RingOf K} {inverse : K → K} {numbers : Numbering
   unfolding cut
   cut-members s x c =
       let d = filter-Contains (lies_in_all ring arr s) (points ring numbers arr.dim) x c in
-      (points-rows over.field.is_ring over.numbering arr.dim x d.0, d.1)
+      (points-rows (field_of over) arr.dim x d.0, d.1)
 
   pub members-cut : (s : Set) (x : List K) → IsRow ring arr.dim x → lies_in_all ring arr s x ≡ true → Contains (cut ring numbers arr s) x
   unfolding cut
-  members-cut s x r h = Contains-filter (lies_in_all ring arr s) (points ring numbers arr.dim) x (rows-points over.field.is_ring over.numbering arr.dim x r) h
+  members-cut s x r h = Contains-filter (lies_in_all ring arr s) (points ring numbers arr.dim) x (rows-points (field_of over) arr.dim x r) h
 
   -- the members of the closure are the hyperplanes that contain the cut
-  pub flat-members : (s : Set) (j : ℕ) → Contains (flat ring numbers arr s) j → IsIndex arr j × IsAbove ring arr s j
-  unfolding flat
+  pub flat-members : (s : Set) (j : ℕ) → Contains (closure ring numbers arr s) j → IsIndex arr j × IsAbove ring arr s j
+  unfolding closure
   flat-members s j c =
       let d = filter-Contains (λ j. list_all (lies_in ring arr j) (cut ring numbers arr s)) (indices arr) j c in
       (within j (length arr.forms) (range_members j 1 (length arr.forms) d.0), λ x r h. all-at (lies_in ring arr j) (cut ring numbers arr s) x d.1 (members-cut s x r h))
@@ -73,8 +74,8 @@ module _ {K : Type 0} {ring : RingOf K} {inverse : K → K} {numbers : Numbering
       within : (j n : ℕ) → (1 ≤ j) × (j < 1 + n) → (1 ≤ j) × (j ≤ n)
       within j n h = omega arith
 
-  pub members-flat : (s : Set) (j : ℕ) → IsIndex arr j → IsAbove ring arr s j → Contains (flat ring numbers arr s) j
-  unfolding flat
+  pub members-flat : (s : Set) (j : ℕ) → IsIndex arr j → IsAbove ring arr s j → Contains (closure ring numbers arr s) j
+  unfolding closure
   members-flat s j r h =
       Contains-filter (λ j. list_all (lies_in ring arr j) (cut ring numbers arr s)) (indices arr) j (members_range j 1 (length arr.forms) r.0 (low j (length arr.forms) r))
       (all-from (lies_in ring arr j) (cut ring numbers arr s) (λ x c. let d = cut-members s x c in h x d.0 d.1))
@@ -83,11 +84,11 @@ module _ {K : Type 0} {ring : RingOf K} {inverse : K → K} {numbers : Numbering
       low j n h = omega arith
 
   -- a closure is a set of hyperplanes
-  pub flat-set : (s : Set) → IsSetWithin (length arr.forms) (flat ring numbers arr s)
-  unfolding flat
+  pub flat-set : (s : Set) → IsSetWithin (length arr.forms) (closure ring numbers arr s)
+  unfolding closure
   flat-set s = filter-set (λ j. list_all (lies_in ring arr j) (cut ring numbers arr s)) (length arr.forms)
 
-  pub flat-indices : (s : Set) → AreIndices arr (flat ring numbers arr s)
+  pub flat-indices : (s : Set) → AreIndices arr (closure ring numbers arr s)
   flat-indices s i c = (flat-members s i c).0
 
   -- ---- the laws of the closure
@@ -96,51 +97,51 @@ module _ {K : Type 0} {ring : RingOf K} {inverse : K → K} {numbers : Numbering
   lies-part s t x p h = all-from (λ i. lies_in ring arr i x) s (λ i c. all-at (λ i. lies_in ring arr i x) t i h (p i c))
 
   -- a set lies within its closure
-  pub flat-extends : (s : Set) → AreIndices arr s → IsPart s (flat ring numbers arr s)
+  pub flat-extends : (s : Set) → AreIndices arr s → IsPart s (closure ring numbers arr s)
   flat-extends s h i c = members-flat s i (h i c) (λ x r e. all-at (λ i. lies_in ring arr i x) s i e c)
 
   -- a greater set has a greater closure
-  pub flat-monotone : (s t : Set) → IsPart s t → IsPart (flat ring numbers arr s) (flat ring numbers arr t)
+  pub flat-monotone : (s t : Set) → IsPart s t → IsPart (closure ring numbers arr s) (closure ring numbers arr t)
   flat-monotone s t p i c = let d = flat-members s i c in members-flat t i d.0 (λ x r e. d.1 x r (lies-part s t x p e))
 
   -- sets with the same points have the same cut
   pub cut-ext : (s t : Set) → ((x : List K) → IsRow ring arr.dim x → lies_in_all ring arr s x ≡ lies_in_all ring arr t x) → cut ring numbers arr s ≡ cut ring numbers arr t
   unfolding cut
-  cut-ext s t h = filter-ext (lies_in_all ring arr s) (lies_in_all ring arr t) (points ring numbers arr.dim) (λ x c. h x (points-rows over.field.is_ring over.numbering arr.dim x c))
+  cut-ext s t h = filter-ext (lies_in_all ring arr s) (lies_in_all ring arr t) (points ring numbers arr.dim) (λ x c. h x (points-rows (field_of over) arr.dim x c))
 
   -- sets with the same members have the same cut
   pub cut-same : (s t : Set) → IsPart s t → IsPart t s → cut ring numbers arr s ≡ cut ring numbers arr t
   cut-same s t p q = cut-ext s t (λ x r. both_ways _ _ (lies-part t s x q) (lies-part s t x p))
 
   -- the cut of the closure is the cut
-  pub cut-flat : (s : Set) → AreIndices arr s → cut ring numbers arr (flat ring numbers arr s) ≡ cut ring numbers arr s
-  cut-flat s h = cut-ext (flat ring numbers arr s) s (λ x r. both_ways _ _ (lies-part s (flat ring numbers arr s) x (flat-extends s h))
-      (λ e. all-from (λ i. lies_in ring arr i x) (flat ring numbers arr s) (λ i c. (flat-members s i c).1 x r e)))
+  pub cut-flat : (s : Set) → AreIndices arr s → cut ring numbers arr (closure ring numbers arr s) ≡ cut ring numbers arr s
+  cut-flat s h = cut-ext (closure ring numbers arr s) s (λ x r. both_ways _ _ (lies-part s (closure ring numbers arr s) x (flat-extends s h))
+      (λ e. all-from (λ i. lies_in ring arr i x) (closure ring numbers arr s) (λ i c. (flat-members s i c).1 x r e)))
 
   -- the closure is read off the cut
-  pub flat-cut : (s t : Set) → cut ring numbers arr s ≡ cut ring numbers arr t → flat ring numbers arr s ≡ flat ring numbers arr t
-  unfolding flat
+  pub flat-cut : (s t : Set) → cut ring numbers arr s ≡ cut ring numbers arr t → closure ring numbers arr s ≡ closure ring numbers arr t
+  unfolding closure
   flat-cut s t e = ap (λ c. filter (λ j. list_all (lies_in ring arr j) c) (indices arr)) e
 
   -- a closure is closed
-  pub flat-idempotent : (s : Set) → AreIndices arr s → flat ring numbers arr (flat ring numbers arr s) ≡ flat ring numbers arr s
-  flat-idempotent s h = flat-cut (flat ring numbers arr s) s (cut-flat s h)
+  pub flat-idempotent : (s : Set) → AreIndices arr s → closure ring numbers arr (closure ring numbers arr s) ≡ closure ring numbers arr s
+  flat-idempotent s h = flat-cut (closure ring numbers arr s) s (cut-flat s h)
 
   -- a set within a closure has its closure within
-  pub flat-least : (s t : Set) → AreIndices arr t → IsPart s (flat ring numbers arr t) → IsPart (flat ring numbers arr s) (flat ring numbers arr t)
-  flat-least s t h p i c = subst (λ f. Contains f i) (flat-idempotent t h) (flat-monotone s (flat ring numbers arr t) p i c)
+  pub flat-least : (s t : Set) → AreIndices arr t → IsPart s (closure ring numbers arr t) → IsPart (closure ring numbers arr s) (closure ring numbers arr t)
+  flat-least s t h p i c = subst (λ f. Contains f i) (flat-idempotent t h) (flat-monotone s (closure ring numbers arr t) p i c)
 
   -- sets with one closure have one cut
-  pub cut-from_flat : (s t : Set) → AreIndices arr s → AreIndices arr t → flat ring numbers arr s ≡ flat ring numbers arr t → cut ring numbers arr s ≡ cut ring numbers arr t
+  pub cut-from_flat : (s t : Set) → AreIndices arr s → AreIndices arr t → closure ring numbers arr s ≡ closure ring numbers arr t → cut ring numbers arr s ≡ cut ring numbers arr t
   cut-from_flat s t h k e = sym (cut-flat s h) ∙ ap (cut ring numbers arr) e ∙ cut-flat t k
 
   -- ---- one form more
 
   -- a form inside the closure changes neither cut nor closure
-  pub cut-keeps : (s : Set) (j : ℕ) → Contains (flat ring numbers arr s) j → cut ring numbers arr (j ∷ s) ≡ cut ring numbers arr s
+  pub cut-keeps : (s : Set) (j : ℕ) → Contains (closure ring numbers arr s) j → cut ring numbers arr (j ∷ s) ≡ cut ring numbers arr s
   cut-keeps s j c = cut-ext (j ∷ s) s (λ x r. both_ways _ _ (second_true _ _) (λ e. and_from _ _ ((flat-members s j c).1 x r e) e))
 
-  pub flat-keeps : (s : Set) (j : ℕ) → Contains (flat ring numbers arr s) j → flat ring numbers arr (j ∷ s) ≡ flat ring numbers arr s
+  pub flat-keeps : (s : Set) (j : ℕ) → Contains (closure ring numbers arr s) j → closure ring numbers arr (j ∷ s) ≡ closure ring numbers arr s
   flat-keeps s j c = flat-cut (j ∷ s) s (cut-keeps s j c)
 
   -- sets with one cut have one cut with a further form
@@ -152,14 +153,14 @@ module _ {K : Type 0} {ring : RingOf K} {inverse : K → K} {numbers : Numbering
       (λ h. (cut-members s x (subst (λ c. Contains c x) (sym e) (members-cut t x r h))).1)))
 
   -- the closure with a further form is that of the closure with it
-  pub flat-more : (j : ℕ) (s : Set) → AreIndices arr s → flat ring numbers arr (j ∷ flat ring numbers arr s) ≡ flat ring numbers arr (j ∷ s)
-  flat-more j s h = flat-cut (j ∷ flat ring numbers arr s) (j ∷ s) (cut-more j (flat ring numbers arr s) s (cut-flat s h))
+  pub flat-more : (j : ℕ) (s : Set) → AreIndices arr s → closure ring numbers arr (j ∷ closure ring numbers arr s) ≡ closure ring numbers arr (j ∷ s)
+  flat-more j s h = flat-cut (j ∷ closure ring numbers arr s) (j ∷ s) (cut-more j (closure ring numbers arr s) s (cut-flat s h))
 
   -- every set of hyperplanes is one of numbers up to 64
   pub set-within_word : (s : Set) → IsSetWithin (length arr.forms) s → IsSetWithin 64 s
   set-within_word s h = set-wider (length arr.forms) 64 s (few (length arr.forms) over.arrangement.few_forms) h
     where
-      few : (n : ℕ) → n ≤ 60 → n ≤ 64
+      few : (n : ℕ) → n ≤ max_forms → n ≤ 64
       few n l = omega arith
 
   -- the set with one member more, and the list with one more in front, have one cut
@@ -168,21 +169,21 @@ module _ {K : Type 0} {ring : RingOf K} {inverse : K → K} {numbers : Numbering
       cut-same (with_member s j) (j ∷ s) (λ i c. with-members s j i c)
       (λ i c. members-with s j i (set-within_word s h) (low j (length arr.forms) r over.arrangement.few_forms) c)
     where
-      low : (j n : ℕ) → (1 ≤ j) × (j ≤ n) → n ≤ 60 → (1 ≤ j) × (j ≤ 64)
+      low : (j n : ℕ) → (1 ≤ j) × (j ≤ n) → n ≤ max_forms → (1 ≤ j) × (j ≤ 64)
       low j n r l = omega arith
 
-  pub flat-with : (s : Set) (j : ℕ) → IsSetWithin (length arr.forms) s → IsIndex arr j → flat ring numbers arr (with_member s j) ≡ flat ring numbers arr (j ∷ s)
+  pub flat-with : (s : Set) (j : ℕ) → IsSetWithin (length arr.forms) s → IsIndex arr j → closure ring numbers arr (with_member s j) ≡ closure ring numbers arr (j ∷ s)
   flat-with s j h r = flat-cut (with_member s j) (j ∷ s) (cut-with s j h r)
 
   -- ---- flats
 
   -- the closure of a set or of a list of hyperplanes is a flat
-  pub IsFlat-flat : (s : Set) → AreIndices arr s → IsFlat ring numbers arr (flat ring numbers arr s)
-  IsFlat-flat s h = (flat ring numbers arr s, flat-set s, sym (flat-idempotent s h))
+  pub IsFlat-flat : (s : Set) → AreIndices arr s → IsFlat ring numbers arr (closure ring numbers arr s)
+  IsFlat-flat s h = (closure ring numbers arr s, flat-set s, sym (flat-idempotent s h))
 
   -- a flat is its own closure
-  pub flat-of_flat : (f : Set) → IsFlat ring numbers arr f → flat ring numbers arr f ≡ f
-  flat-of_flat f h = ap (flat ring numbers arr) h.2 ∙ flat-idempotent h.0 (set-indices arr h.0 h.1) ∙ sym h.2
+  pub flat-of_flat : (f : Set) → IsFlat ring numbers arr f → closure ring numbers arr f ≡ f
+  flat-of_flat f h = ap (closure ring numbers arr) h.2 ∙ flat-idempotent h.0 (set-indices arr h.0 h.1) ∙ sym h.2
 
   -- a flat is a set of hyperplanes
   pub IsFlat-set : (f : Set) → IsFlat ring numbers arr f → IsSetWithin (length arr.forms) f

@@ -1,16 +1,17 @@
 -- The fault of a list of forms, from what a search through them finds.
-use Rattle.std.proofs.Common.{◌≡◌, ◌≢◌, ◌||◌, ◌∷◌, ℕ, ◌-◌, All, Bool, IfSome, Option, cond, map, ◌<◌, ◌≤◌, true, false, List, [], length, get_or, Some, None, ap, ◌∙◌, arith}
+use Rattle.std.proofs.Common.{◌≡◌, ◌≢◌, ◌||◌, ◌∷◌, ℕ, ◌+◌, ◌-◌, All, Bool, IfSome, Option, cond, map, ◌<◌, ◌≤◌, true, false, List, [], length, get_or, Some, None, ap, ◌∙◌, arith}
 use Rattle.std.specs.Prelude.{nat_lt, nat_le}
 use Rattle.std.proofs.lemmas.List.{get_or_read}
 use Rattle.std.proofs.lemmas.List.Elements.{All-head, All-tail, All-cons, All-nil, All-map}
 use Rattle.std.specs.Option.{option_map}
 use Rattle.hp_algebra.specs.Ring.{RingOf, Numbering}
-use Rattle.hp_algebra.specs.Lists.{one_to, first_some}
-use Rattle.hp_arr.specs.Arrangement.{is_zero_row, max_forms}
-use Rattle.hp_arr.specs.FormFaults.{row, zero_fault, is_multiple, earlier_multiple, repeat_of, repeated_fault, too_many_fault, form_fault}
+use Rattle.hp_lists.specs.Lists.{one_to, first_some}
+use Rattle.hp_arr.specs.Arrangement.{max_forms}
+use Rattle.hp_algebra.specs.Rows.{is_zero_row, is_multiple}
+use Rattle.hp_arr.specs.FormFaults.{row, zero_fault, earlier_multiple, repeat_of, repeated_fault, too_many_fault, form_fault}
 use Rattle.hp_arr.specs.declared.fault.ArrFault.{ArrFault}
 use Rattle.hp_arr.specs.declared.fault.ArrFault.TheVariants.{ZeroForm, Repeated, TooMany, Memory}
-use Rattle.hp_arr.proofs.Firsts.{find-first, find-none, find-none_at, first_some-first, first_some-none, option_map-none}
+use Rattle.hp_lists.proofs.Firsts.{find-first, find-none, find-none_at, first_some-first, first_some-none, option_map-none}
 
 pub zero_fault-first : {K : Type 0} (ring : RingOf K) (rows : List (List K)) (i : ℕ) → 1 ≤ i → i ≤ length rows → is_zero_row ring (row rows i) ≡ true → ((h : ℕ) → 1 ≤ h → h < i → is_zero_row ring (row rows h) ≡ false) → zero_fault ring rows ≡ Some (ZeroForm i)
 zero_fault-first ring rows i low high zero before =
@@ -28,6 +29,17 @@ zero_fault-none_at ring rows none h low high =
 -- a form as it is read
 pub row_read : {K : Type 0} (rows : List (List K)) (i : ℕ) (x shown : List K) → 1 ≤ i → i ≤ length rows → x ≡ get_or rows (i - 1) x → shown ≡ x → shown ≡ row rows i
 row_read rows i x shown low high read same = same ∙ get_or_read rows (i - 1) x (omega arith) read []
+
+-- what is made of a form as it is read
+pub form_made : {K V : Type 0} (f : List K → V) (rows : List (List K)) (k : ℕ) (x shown : List K) (made : V) → k < length rows
+    → x ≡ get_or rows k x → shown ≡ x → made ≡ f shown → made ≡ f (get_or rows k [])
+form_made f rows k x shown made within read same e = e ∙ ap f (same ∙ get_or_read rows k x within read [])
+
+pub row_made : {K V : Type 0} (f : List K → V) (rows : List (List K)) (k : ℕ) (x shown : List K) (made : V) → k < length rows
+    → x ≡ get_or rows k x → shown ≡ x → made ≡ f shown → made ≡ f (row rows (k + 1))
+row_made f rows k x shown made within read same e =
+    let at : k ≡ k + 1 - 1 = omega arith in
+    form_made f rows k x shown made within read same e ∙ ap (λ n. f (get_or rows n [])) at
 
 module _ {K : Type 0} (ring : RingOf K) (numbers : Numbering K) where
   pub earlier_multiple-first : (rows : List (List K)) (i j : ℕ) → 1 ≤ i → i < j → is_multiple ring numbers (row rows i) (row rows j) ≡ true → ((h : ℕ) → 1 ≤ h → h < i → is_multiple ring numbers (row rows h) (row rows j) ≡ false) → earlier_multiple ring numbers rows j ≡ Some i

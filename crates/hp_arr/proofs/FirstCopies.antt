@@ -1,90 +1,121 @@
 -- What is kept of rows of which the first copies are kept.
-use Rattle.std.specs.Prelude.{◌≡◌, ℕ, zero, suc, ◌<◌, ◌≤◌, Bool, true, false, cond, ◌||◌, List, [], ◌∷◌, ◌++◌, length, All}
-use Rattle.std.proofs.Common.{get_or, refl, sym, ap, ◌∙◌, arith}
-use Rattle.std.proofs.lemmas.Bool.{or_parts}
-use Rattle.std.proofs.lemmas.List.Elements.{All-head, All-tail, All-nil, All-cons}
-use Rattle.hp_algebra.specs.Ring.{RingOf}
-use Rattle.hp_algebra.specs.Lists.{list_any}
-use Rattle.hp_arr.specs.FormFaults.{same_row}
+use Rattle.std.specs.Prelude.{◌≡◌, ◌⊎◌, ℕ, ◌<◌, ◌≤◌, Bool, true, false, cond, not, ◌||◌, List, [], ◌∷◌, ◌++◌, length, filter, All}
+use Rattle.std.proofs.Common.{get_or, refl, sym, ap, ◌∙◌, inl, inr, arith, append-nil}
+use Rattle.std.proofs.lemmas.Bool.{false≢true, not-true, cases_Bool, false_from_ne_true}
+use Rattle.std.proofs.lemmas.List.Elements.{All-head, All-tail, All-cons, All-filter, filter-append}
+use Rattle.std.proofs.lemmas.List.Sums.{length-filter, count_by-le-length}
+use Rattle.hp_algebra.specs.Ring.{RingOf, IsRing}
+use Rattle.hp_lists.specs.Lists.{Ordered, list_any}
+use Rattle.hp_algebra.specs.Rows.{same_row}
+use Rattle.hp_lists.proofs.Members.{filter-Contains}
+use Rattle.hp_lists.proofs.Ordered.{Ordered-filter, pairs_from_Ordered}
+use Rattle.hp_algebra.proofs.RowDifferences.{same_row-exact}
 use Rattle.hp_arr.specs.Operations.{first_copies}
 
 module _ {K : Type 0} (ring : RingOf K) where
-  abbrev seen_in : List (List K) → List K → Bool
-  seen_in rows a = list_any (same_row ring a) rows
+  -- the rows that are not x
+  abbrev others : List K → List (List K) → List (List K)
+  others x rows = filter (λ b. not (same_row ring x b)) rows
 
-  -- one row more is kept where it was neither seen nor kept
-  first_copies-more : (seen rows : List (List K)) (a : List K) → first_copies ring seen (rows ++ a ∷ []) ≡ cond (seen_in seen a || seen_in (first_copies ring seen rows) a) (first_copies ring seen rows) (first_copies ring seen rows ++ a ∷ [])
-  first_copies-more seen [] a = last (seen_in seen a)
-    where
-      last : (b : Bool) → cond b [] (a ∷ []) ≡ cond (b || false) [] (a ∷ [])
-      last true = refl
-      last false = refl
-  first_copies-more seen (x ∷ rows) a = step (seen_in seen x) (first_copies-more seen rows a) (first_copies-more (x ∷ seen) rows a)
-    where
-      kept : List (List K)
-      kept = first_copies ring (x ∷ seen) rows
-
-      push : (here before behind : Bool) → x ∷ cond ((here || before) || behind) kept (kept ++ a ∷ []) ≡ cond (before || (here || behind)) (x ∷ kept) (x ∷ kept ++ a ∷ [])
-      push true true behind = refl
-      push true false behind = refl
-      push false true behind = refl
-      push false false true = refl
-      push false false false = refl
-
-      step : (b : Bool) → first_copies ring seen (rows ++ a ∷ []) ≡ cond (seen_in seen a || seen_in (first_copies ring seen rows) a) (first_copies ring seen rows) (first_copies ring seen rows ++ a ∷ [])
-          → first_copies ring (x ∷ seen) (rows ++ a ∷ []) ≡ cond ((same_row ring a x || seen_in seen a) || seen_in kept a) kept (kept ++ a ∷ [])
-          → cond b (first_copies ring seen (rows ++ a ∷ [])) (x ∷ first_copies ring (x ∷ seen) (rows ++ a ∷ [])) ≡ cond (seen_in seen a || seen_in (cond b (first_copies ring seen rows) (x ∷ kept)) a) (cond b (first_copies ring seen rows) (x ∷ kept)) (cond b (first_copies ring seen rows) (x ∷ kept) ++ a ∷ [])
-      step true without with = without
-      step false without with = ap (λ xs. x ∷ xs) with ∙ push (same_row ring a x) (seen_in seen a) (seen_in kept a)
-
-  pub first_copies-push : (rows kept : List (List K)) (a : List K) → kept ≡ first_copies ring [] rows → cond (seen_in kept a) kept (kept ++ a ∷ []) ≡ first_copies ring [] (rows ++ a ∷ [])
-  first_copies-push rows kept a e = ap (λ xs. cond (seen_in xs a) xs (xs ++ a ∷ [])) e ∙ sym (first_copies-more [] rows a)
+  abbrev held : List (List K) → List K → Bool
+  held rows a = list_any (same_row ring a) rows
 
   -- what each row has, each kept row has
-  pub All-first_copies : (P : List K → Type 0) (seen rows : List (List K)) → All P rows → All P (first_copies ring seen rows)
-  All-first_copies P seen [] all = all
-  All-first_copies P seen (x ∷ rows) all = step (seen_in seen x) (All-first_copies P seen rows (All-tail P x rows all)) (All-first_copies P (x ∷ seen) rows (All-tail P x rows all))
-    where
-      step : (b : Bool) → All P (first_copies ring seen rows) → All P (first_copies ring (x ∷ seen) rows) → All P (cond b (first_copies ring seen rows) (x ∷ first_copies ring (x ∷ seen) rows))
-      step true without with = without
-      step false without with = All-cons P x (first_copies ring (x ∷ seen) rows) (All-head P x rows all) with
+  pub All-first_copies : (P : List K → Type 0) (rows : List (List K)) → All P rows → All P (first_copies ring rows)
+  All-first_copies P [] all = all
+  All-first_copies P (x ∷ rows) all =
+      All-cons P x _ (All-head P x rows all)
+      (All-filter (λ b. not (same_row ring x b)) P (first_copies ring rows) (All-first_copies P rows (All-tail P x rows all)))
 
   -- no more rows are kept than there were
-  pub length-first_copies : (seen rows : List (List K)) → length (first_copies ring seen rows) ≤ length rows
-  length-first_copies seen [] = omega arith
-  length-first_copies seen (x ∷ rows) = step (seen_in seen x) (length-first_copies seen rows) (length-first_copies (x ∷ seen) rows)
-    where
-      step : (b : Bool) → length (first_copies ring seen rows) ≤ length rows → length (first_copies ring (x ∷ seen) rows) ≤ length rows → length (cond b (first_copies ring seen rows) (x ∷ first_copies ring (x ∷ seen) rows)) ≤ suc (length rows)
-      step true without with = omega (arith, without)
-      step false without with = omega (arith, with)
-
-  -- a kept row was not seen before
-  first_copies-unseen : (seen rows : List (List K)) → All (λ a. seen_in seen a ≡ false) (first_copies ring seen rows)
-  first_copies-unseen seen [] = All-nil (λ a. seen_in seen a ≡ false)
-  first_copies-unseen seen (x ∷ rows) = step (seen_in seen x) refl (first_copies-unseen seen rows) (first_copies-unseen (x ∷ seen) rows)
-    where
-      Unseen : List K → Type 0
-      Unseen a = seen_in seen a ≡ false
-
-      step : (b : Bool) → seen_in seen x ≡ b → All (λ a. seen_in seen a ≡ false) (first_copies ring seen rows) → All (λ a. seen_in (x ∷ seen) a ≡ false) (first_copies ring (x ∷ seen) rows) → All (λ a. seen_in seen a ≡ false) (cond b (first_copies ring seen rows) (x ∷ first_copies ring (x ∷ seen) rows))
-      step true e without with = without
-      step false e without with = All-cons (λ a. seen_in seen a ≡ false) x (first_copies ring (x ∷ seen) rows) e (λ k d h. (or_parts (same_row ring (get_or (first_copies ring (x ∷ seen) rows) k d) x) (seen_in seen (get_or (first_copies ring (x ∷ seen) rows) k d)) (with k d h)).1)
+  pub length-first_copies : (rows : List (List K)) → length (first_copies ring rows) ≤ length rows
+  length-first_copies [] = omega arith
+  length-first_copies (x ∷ rows) =
+      let other : List K → Bool = λ b. not (same_row ring x b) in
+      let kept = first_copies ring rows in
+      omega (arith, length-filter other kept, count_by-le-length other kept, length-first_copies rows)
 
   -- no kept row is that of an earlier one
-  pub first_copies-apart : (seen rows : List (List K)) (p q : ℕ) (d : List K) → p < q → q < length (first_copies ring seen rows) → same_row ring (get_or (first_copies ring seen rows) q d) (get_or (first_copies ring seen rows) p d) ≡ false
-  first_copies-apart seen [] p q d before within = absurd (omega (arith, within))
-  first_copies-apart seen (x ∷ rows) p q d before within = step (seen_in seen x) (first_copies-apart seen rows) (first_copies-apart (x ∷ seen) rows) within
+  first_copies-ordered : (rows : List (List K)) → Ordered (λ a b. same_row ring a b ≡ false) (first_copies ring rows)
+  first_copies-ordered [] = tt
+  first_copies-ordered (x ∷ rows) = (
+    λ b c. not-true (same_row ring x b) (filter-Contains (λ b. not (same_row ring x b)) (first_copies ring rows) b c).1,
+    Ordered-filter (λ a b. same_row ring a b ≡ false) (λ b. not (same_row ring x b)) (first_copies ring rows) (first_copies-ordered rows),
+  )
+
+  pub first_copies-apart : (rows : List (List K)) (p q : ℕ) (d : List K) → p < q → q < length (first_copies ring rows)
+      → same_row ring (get_or (first_copies ring rows) p d) (get_or (first_copies ring rows) q d) ≡ false
+  first_copies-apart rows = pairs_from_Ordered (λ a b. same_row ring a b ≡ false) (first_copies ring rows) (first_copies-ordered rows)
+
+  module _ (x a : List K) (rows : List (List K)) where
+    -- a row that is x is lost among the others
+    push-lost : same_row ring x a ≡ true → (b : Bool) → others x (cond b rows (rows ++ a ∷ [])) ≡ others x rows
+    push-lost e true = refl
+    push-lost e false =
+        filter-append (λ b. not (same_row ring x b)) rows (a ∷ [])
+        ∙ ap (λ t. others x rows ++ cond (not t) (a ∷ []) []) e ∙ append-nil (others x rows)
+
+    -- a row that is not x stays
+    push-stays : same_row ring x a ≡ false → (b : Bool) → x ∷ others x (cond b rows (rows ++ a ∷ [])) ≡ cond b (x ∷ others x rows) (x ∷ others x rows ++ a ∷ [])
+    push-stays e true = refl
+    push-stays e false =
+        ap (λ ys. x ∷ ys)
+        (filter-append (λ b. not (same_row ring x b)) rows (a ∷ []) ∙ ap (λ t. others x rows ++ cond (not t) (a ∷ []) []) e)
+
+module _ {K : Type 0} {ring : RingOf K} (laws : IsRing ring) where
+  abbrev Values : List K → Type 0
+  Values row = All ring.IsValue row
+
+  same_row-sym : (a b : List K) → Values a → Values b → same_row ring a b ≡ true → same_row ring b a ≡ true
+  same_row-sym a b va vb e = (same_row-exact laws b a vb va).1 (sym ((same_row-exact laws a b va vb).0 e))
+
+  -- a row that is not x is held where it is held among the others
+  held-others : (x a : List K) (rows : List (List K)) → Values x → Values a → All Values rows → same_row ring a x ≡ false
+      → held ring (others ring x rows) a ≡ held ring rows a
+  held-others x a [] vx va vr apart = refl
+  held-others x a (b ∷ rows) vx va vr apart =
+      step (cases_Bool (same_row ring x b)) (held-others x a rows vx va (All-tail Values b rows vr) apart)
     where
+      -- b is x, so a is not b
+      differ : same_row ring x b ≡ true → same_row ring a b ≡ false
+      differ e = ap (same_row ring a) (sym ((same_row-exact laws x b vx (All-head Values b rows vr)).0 e)) ∙ apart
+
+      step : (same_row ring x b ≡ true) ⊎ (same_row ring x b ≡ false) → held ring (others ring x rows) a ≡ held ring rows a
+          → held ring (cond (not (same_row ring x b)) (b ∷ others ring x rows) (others ring x rows)) a ≡ (same_row ring a b || held ring rows a)
+      step (inl e) rest =
+          ap (λ t. held ring (cond (not t) (b ∷ others ring x rows) (others ring x rows)) a) e ∙ rest ∙ sym (ap (λ t. t || held ring rows a) (differ e))
+      step (inr e) rest =
+          ap (λ t. held ring (cond (not t) (b ∷ others ring x rows) (others ring x rows)) a) e ∙ ap (λ t. same_row ring a b || t) rest
+
+  -- one row more is kept where it is not held yet
+  first_copies-more : (rows : List (List K)) (a : List K) → All Values rows → Values a
+      → cond (held ring (first_copies ring rows) a) (first_copies ring rows) (first_copies ring rows ++ a ∷ []) ≡ first_copies ring (rows ++ a ∷ [])
+  first_copies-more [] a vr va = refl
+  first_copies-more (x ∷ rows) a vr va = step (cases_Bool (same_row ring a x)) ∙ ap (λ ks. x ∷ others ring x ks) (first_copies-more rows a vrest va)
+    where
+      vx : Values x
+      vx = All-head Values x rows vr
+
+      vrest : All Values rows
+      vrest = All-tail Values x rows vr
+
       kept : List (List K)
-      kept = first_copies ring (x ∷ seen) rows
+      kept = first_copies ring rows
 
-      behind : (p q : ℕ) → ((p q : ℕ) (d : List K) → p < q → q < length kept → same_row ring (get_or kept q d) (get_or kept p d) ≡ false) → p < q → q < suc (length kept) → same_row ring (get_or (x ∷ kept) q d) (get_or (x ∷ kept) p d) ≡ false
-      behind p zero later before within = absurd (omega (arith, before))
-      behind zero (suc q) later before within = (or_parts (same_row ring (get_or kept q d) x) (seen_in seen (get_or kept q d)) (first_copies-unseen (x ∷ seen) rows q d (omega (arith, within)))).0
-      behind (suc p) (suc q) later before within = later p q d (omega (arith, before)) (omega (arith, within))
+      back : same_row ring a x ≡ false → same_row ring x a ≡ false
+      back e = false_from_ne_true _ (λ t. false≢true (sym e ∙ same_row-sym x a vx va t))
 
-      step : (b : Bool) → ((p q : ℕ) (d : List K) → p < q → q < length (first_copies ring seen rows) → same_row ring (get_or (first_copies ring seen rows) q d) (get_or (first_copies ring seen rows) p d) ≡ false)
-          → ((p q : ℕ) (d : List K) → p < q → q < length kept → same_row ring (get_or kept q d) (get_or kept p d) ≡ false)
-          → q < length (cond b (first_copies ring seen rows) (x ∷ kept)) → same_row ring (get_or (cond b (first_copies ring seen rows) (x ∷ kept)) q d) (get_or (cond b (first_copies ring seen rows) (x ∷ kept)) p d) ≡ false
-      step true without with l = without p q d before l
-      step false without with l = behind p q with before l
+      step : (same_row ring a x ≡ true) ⊎ (same_row ring a x ≡ false)
+          → cond (same_row ring a x || held ring (others ring x kept) a) (x ∷ others ring x kept) (x ∷ others ring x kept ++ a ∷ [])
+          ≡ x ∷ others ring x (cond (held ring kept a) kept (kept ++ a ∷ []))
+      step (inl e) =
+          ap (λ t. cond (t || held ring (others ring x kept) a) (x ∷ others ring x kept) (x ∷ others ring x kept ++ a ∷ [])) e
+          ∙ ap (λ ks. x ∷ ks) (sym (push-lost ring x a kept (same_row-sym a x va vx e) (held ring kept a)))
+      step (inr e) =
+          ap (λ t. cond (t || held ring (others ring x kept) a) (x ∷ others ring x kept) (x ∷ others ring x kept ++ a ∷ [])) e
+          ∙ ap (λ t. cond t (x ∷ others ring x kept) (x ∷ others ring x kept ++ a ∷ [])) (held-others x a kept vx va (All-first_copies ring Values rows vrest) e)
+          ∙ sym (push-stays ring x a kept (back e) (held ring kept a))
+
+  pub first_copies-push : (rows kept : List (List K)) (a : List K) → All Values rows → Values a → kept ≡ first_copies ring rows
+      → cond (held ring kept a) kept (kept ++ a ∷ []) ≡ first_copies ring (rows ++ a ∷ [])
+  first_copies-push rows kept a vr va e = ap (λ ks. cond (held ring ks a) ks (ks ++ a ∷ [])) e ∙ first_copies-more rows a vr va

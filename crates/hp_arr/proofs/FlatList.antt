@@ -12,18 +12,18 @@ use Rattle.std.proofs.lemmas.Cmp.{tied_itself}
 use mathlib.Core.Path.{refl, sym, ap, ◌∙◌, subst}
 use native.Mathlib.Omega.{arith}
 use Rattle.hp_algebra.specs.Ring.{RingOf, Numbering}
-use Rattle.hp_algebra.specs.Lists.{below}
-use Rattle.hp_algebra.proofs.Members.{first_true, second_true, Contains-filter, filter-Contains, Contains-map, map-Contains, Contains-flat_map, flat_map-Contains}
-use Rattle.hp_algebra.proofs.Rising.{Ordered, Ordered-append, Ordered-filter, range_members, sorted_of, sorted-ext}
+use Rattle.hp_lists.specs.Lists.{below, Ordered}
+use Rattle.hp_lists.proofs.Members.{first_true, second_true, Contains-filter, filter-Contains, Contains-map, map-Contains, Contains-flat_map, flat_map-Contains}
+use Rattle.hp_lists.proofs.Ordered.{Ordered-append, Ordered-filter, sorted_of, sorted-ext, Ordered-weaker}
+use Rattle.hp_lists.proofs.Ranges.{range_members, members_below}
 use Rattle.hp_sets.specs.Sets.{Set, IsSetWithin, cmp_listed, is_within, sets_within}
 use Rattle.hp_sets.specs.ListedOrder.{cmp_listed_same, cmp_listed_total}
 use Rattle.hp_sets.specs.declared.flat.Flat.{Flat}
 use Rattle.hp_sets.proofs.SetLists.{IsListedBefore, sets-complete, sets-rise, nat_less, nat_same}
 use Rattle.hp_sets.proofs.SetWithin.{members-is_within, is_within-antisymm}
 use Rattle.hp_arr.specs.Arrangement.{Arrangement}
-use Rattle.hp_arr.specs.Flats.{flat, rank, IsFlat, is_flat, flats_of_rank, flats, cmp_ranked}
+use Rattle.hp_arr.specs.Flats.{closure, rank, IsFlat, is_flat, flats_of_rank, flats, cmp_ranked}
 use Rattle.hp_arr.proofs.OverField.{IsOverField}
-use Rattle.hp_arr.proofs.Lists.{members_below, Ordered-weaker}
 use Rattle.hp_arr.proofs.Cuts.{flat-set, flat-of_flat, IsFlat-set}
 use Rattle.hp_arr.proofs.Ranks.{rank-dim}
 
@@ -53,7 +53,7 @@ module _ {K : Type 0} {ring : RingOf K} {inverse : K → K} {numbers : Numbering
   pub is_flat-IsFlat : (s : Set) → IsSetWithin (length arr.forms) s → (is_flat ring numbers arr s ≡ true) ↔ IsFlat ring numbers arr s
   unfolding is_flat
   is_flat-IsFlat s h = (
-    (λ e. (s, h, sym (is_within-antisymm (length arr.forms) (length arr.forms) (flat ring numbers arr s) s (flat-set over s) h (first_true _ _ e) (second_true _ _ e)))),
+    (λ e. (s, h, sym (is_within-antisymm (length arr.forms) (length arr.forms) (closure ring numbers arr s) s (flat-set over s) h (first_true _ _ e) (second_true _ _ e)))),
     λ f.
         let w : is_within s s ≡ true = members-is_within s s (λ i c. c) in
         subst (λ z. (is_within z s && is_within s z) ≡ true) (sym (flat-of_flat over s f)) (and_from _ _ w w),
@@ -141,7 +141,7 @@ module _ {K : Type 0} {ring : RingOf K} {inverse : K → K} {numbers : Numbering
 
   -- No member stands twice.
   pub flats-distinct : Ordered (λ f g. f ≢ g) (flats ring numbers arr)
-  flats-distinct = Ordered-weaker IsRankedBefore (λ f g. f ≢ g) (flats ring numbers arr) ranked-differ flats-order
+  flats-distinct = Ordered-weaker IsRankedBefore (λ f g. f ≢ g) (flats ring numbers arr) (λ f g c d less. ranked-differ f g less) flats-order
 
   -- So it is the one list that strictly rises and has exactly the flats with their ranks.
   pub flats-unique : (fs : List Flat) → IsStrictlySortedBy cmp_ranked fs → ((f : Flat) → Contains fs f ↔ (IsFlat ring numbers arr f.set × (f.rank ≡ rank ring numbers arr f.set))) → fs ≡ flats ring numbers arr

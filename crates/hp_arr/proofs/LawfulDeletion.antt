@@ -5,7 +5,8 @@ use Rattle.std.proofs.lemmas.Option.{slice_get_within, slice_get-get_or, get_or_
 use Rattle.std.proofs.lemmas.List.Edits.{get_or-remove_below, get_or-remove_above, length-remove}
 use Rattle.std.proofs.lemmas.Bool.{cases_lt}
 use Rattle.hp_algebra.specs.Ring.{RingOf, Numbering}
-use Rattle.hp_arr.specs.Arrangement.{Arrangement, IsArrangement, IsRow, IsMultiple, is_zero_row}
+use Rattle.hp_arr.specs.Arrangement.{Arrangement, IsArrangement}
+use Rattle.hp_algebra.specs.Rows.{IsRow, IsMultiple, is_zero_row}
 use Rattle.hp_arr.specs.Operations.{deletion}
 
 -- where a member stood before one was removed

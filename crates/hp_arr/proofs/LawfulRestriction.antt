@@ -1,22 +1,22 @@
 -- The restriction of an arrangement is an arrangement.
-use Rattle.std.specs.Prelude.{◌≡◌, ◌≢◌, ℕ, zero, suc, ◌+◌, ◌-◌, ◌<◌, ◌≤◌, Bool, true, false, List, [], ◌∷◌, map, length, All, slice_get, Some, remove}
-use Rattle.std.proofs.Common.{get_or, refl, sym, ap, ◌∙◌, subst, inl, inr, arith}
+use Rattle.std.specs.Prelude.{◌≡◌, ◌≢◌, ℕ, zero, suc, ◌+◌, ◌-◌, ◌<◌, ◌≤◌, Bool, true, false, cond, List, [], ◌∷◌, ◌++◌, map, length, All, slice_get, Some, remove}
+use Rattle.std.proofs.Common.{get_or, take, refl, sym, ap, ◌∙◌, subst, inl, inr, arith}
 use Rattle.std.proofs.lemmas.Bool.{false≢true, cases_order, and_parts, and_from, false_from_ne_true}
 use Rattle.std.proofs.lemmas.Option.{slice_get_within, slice_get-get_or, get_or_from_slice_get}
-use Rattle.std.proofs.lemmas.List.{length-map, get_or-map}
-use Rattle.std.proofs.lemmas.List.Elements.{All-head, All-tail, All-map}
+use Rattle.std.proofs.lemmas.List.{length-map, get_or-map, map_more}
+use Rattle.std.proofs.lemmas.List.Elements.{All-map, All-take}
 use Rattle.std.proofs.lemmas.List.Edits.{length-remove}
-use Rattle.std.proofs.lemmas.List.Folds.{list_all_at}
-use Rattle.hp_algebra.specs.Ring.{RingOf, Numbering, IsRing, IsField}
-use Rattle.hp_algebra.specs.Lists.{list_all}
-use Rattle.hp_algebra.proofs.Rings.{mul_zero, zero_mul}
-use Rattle.hp_arr.specs.Arrangement.{Arrangement, IsArrangement, IsRow, IsMultiple, form, is_zero_row, scale}
-use Rattle.hp_arr.specs.FormFaults.{row_minus, same_row}
-use Rattle.hp_arr.specs.Operations.{entry, first_copies, normalised, restricted_form, deletion, restriction}
-use Rattle.hp_arr.proofs.Multiples.{scale_values, same_row-self, from_same_row}
-use Rattle.hp_arr.proofs.NonzeroPlaces.{IsLastNonzero, first_nonzero, last_nonzero, first_entry, last_place-is, entry-at, zero_passes, nonzero_fails}
-use Rattle.hp_arr.proofs.RowDifferences.{length-minus_multiple, get_or-row_minus, row_minus-values}
-use Rattle.hp_arr.proofs.FirstCopies.{All-first_copies, length-first_copies, first_copies-apart}
+use Rattle.hp_algebra.specs.Ring.{RingOf, Numbering, IsField}
+use Rattle.hp_lists.specs.Lists.{list_all, list_any}
+use Rattle.hp_algebra.proofs.Rings.{zero_passes, same_from_difference}
+use Rattle.hp_arr.specs.Arrangement.{Arrangement, IsArrangement, form}
+use Rattle.hp_algebra.specs.Rows.{IsRow, IsMultiple, entry, is_zero_row, row_scale, row_minus, same_row}
+use Rattle.hp_arr.specs.Operations.{first_copies, normalised, restricted_form, deletion, restriction}
+use Rattle.hp_algebra.proofs.Rows.{scale-values, row-ext, is_zero_row-at}
+use Rattle.hp_algebra.proofs.RowDifferences.{same_row-self, length-minus_multiple, get_or-minus, minus-values}
+use Rattle.hp_arr.proofs.NonzeroPlaces.{IsLastNonzero, last_nonzero, last_place-is}
+use Rattle.hp_arr.proofs.NormalRows.{IsNormal, normal-nonzero, normal-same, normalised-normal, normalised-row}
+use Rattle.hp_arr.proofs.FirstCopies.{All-first_copies, length-first_copies, first_copies-apart, first_copies-push}
 use Rattle.hp_arr.proofs.LawfulDeletion.{All-remove, fewer, deletion-lawful, apart_from}
 
 -- a row without an entry that is zero is zero only where it is
@@ -38,56 +38,49 @@ module _ {K : Type 0} {ring : RingOf K} {inverse : K → K} (field : IsField rin
   -- ---- one form on the hyperplane of another
 
   -- the factor with which b - c a has no entry k
-  abbrev factor : List K → List K → ℕ → K
-  factor a b k = ring.mul (get_or b k ring.zero) (inverse (get_or a k ring.zero))
+  abbrev pub factor : List K → List K → ℕ → K
+  factor a b k = ring.mul (entry ring b k) (inverse (entry ring a k))
 
-  abbrev cleared : List K → List K → ℕ → List K
-  cleared a b k = row_minus ring b (scale ring (factor a b k) a)
+  abbrev pub cleared : List K → List K → ℕ → List K
+  cleared a b k = row_minus ring b (row_scale ring (factor a b k) a)
 
-  abbrev solved : List K → List K → ℕ → List K
-  solved a b j = remove (row_minus ring b (scale ring (ring.mul (entry ring b j) (inverse (entry ring a j))) a)) (j - 1)
-
-  restricted_form-at : (a b : List K) (k : ℕ) → All ring.IsValue a → IsLastNonzero field.is_ring a k → restricted_form ring inverse a b ≡ remove (cleared a b k) k
-  restricted_form-at a b k va at =
-      let back : k + 1 - 1 ≡ k = omega arith in
-      ap (solved a b) (last_place-is field.is_ring a va k at)
-      ∙ ap (λ x. remove (row_minus ring b (scale ring (ring.mul x (inverse (entry ring a (k + 1)))) a)) (k + 1 - 1)) (entry-at field.is_ring b k)
-      ∙ ap (λ x. remove (row_minus ring b (scale ring (ring.mul (get_or b k ring.zero) (inverse x)) a)) (k + 1 - 1)) (entry-at field.is_ring a k)
-      ∙ ap (remove (cleared a b k)) back
+  pub restricted_form-at : (a b : List K) (k : ℕ) → All ring.IsValue a → IsLastNonzero field.is_ring a k
+      → restricted_form ring inverse a b ≡ remove (cleared a b k) k
+  restricted_form-at a b k va at = ap (λ j. remove (cleared a b j) j) (last_place-is field.is_ring a va k at)
 
   module _ (a b : List K) (k : ℕ) (va : All ring.IsValue a) (vb : All ring.IsValue b) (e : length b ≡ length a) (at : IsLastNonzero field.is_ring a k) where
     in_b : k < length b
     in_b = let within = at.within in omega (arith, within, e)
 
-    at_a : ring.IsValue (get_or a k ring.zero)
+    at_a : ring.IsValue (entry ring a k)
     at_a = va k ring.zero at.within
 
-    at_b : ring.IsValue (get_or b k ring.zero)
+    at_b : ring.IsValue (entry ring b k)
     at_b = vb k ring.zero in_b
 
-    factor-value : ring.IsValue (factor a b k)
+    pub factor-value : ring.IsValue (factor a b k)
     factor-value = field.is_ring.mul_value _ _ at_b (field.inverse_value _ at_a at.nonzero)
 
-    wide : length b ≡ length (scale ring (factor a b k) a)
+    wide : length b ≡ length (row_scale ring (factor a b k) a)
     wide = e ∙ sym (length-map a (ring.mul (factor a b k)))
 
-    long : length (cleared a b k) ≡ length b
+    pub long : length (cleared a b k) ≡ length b
     long = length-minus_multiple ring (factor a b k) b a e
 
-    cleared-values : All ring.IsValue (cleared a b k)
-    cleared-values = row_minus-values ring field.is_ring b (scale ring (factor a b k) a) vb (scale_values field.is_ring (factor a b k) a factor-value va)
+    pub cleared-values : All ring.IsValue (cleared a b k)
+    cleared-values = minus-values field.is_ring b (row_scale ring (factor a b k) a) vb (scale-values field.is_ring (factor a b k) a factor-value va)
 
-    clears : get_or (cleared a b k) k ring.zero ≡ ring.zero
+    pub clears : entry ring (cleared a b k) k ≡ ring.zero
     clears =
         let laws = field.is_ring in
-        let x = get_or a k ring.zero in
-        let y = get_or b k ring.zero in
+        let x = entry ring a k in
+        let y = entry ring b k in
         let vi = field.inverse_value x at_a at.nonzero in
         let same : ring.mul (factor a b k) x ≡ y =
         laws.mul_assoc y (inverse x) x at_b vi at_a
         ∙ ap (ring.mul y) (field.commutes (inverse x) x vi at_a ∙ field.mul_inverse x at_a at.nonzero)
         ∙ laws.mul_one y at_b in
-        get_or-row_minus ring b (scale ring (factor a b k) a) k ring.zero wide in_b
+        get_or-minus ring b (row_scale ring (factor a b k) a) k ring.zero wide in_b
         ∙ ap (λ z. ring.add y (ring.neg z)) (get_or-map (ring.mul (factor a b k)) a k ring.zero ring.zero at.within ∙ same)
         ∙ laws.add_neg y at_b
 
@@ -103,9 +96,15 @@ module _ {K : Type 0} {ring : RingOf K} {inverse : K → K} (field : IsField rin
     restricted-nonzero : ¬ (IsMultiple ring b a) → is_zero_row ring (remove (cleared a b k) k) ≡ false
     restricted-nonzero apart = false_from_ne_true _ (λ zero.
         let in_cleared : k < length (cleared a b k) = (let l = long in omega (arith, l, in_b)) in
-        let none : same_row ring b (scale ring (factor a b k) a) ≡ true =
-        remove-zero ring.is_zero (cleared a b k) k ring.zero in_cleared (zero_passes field.is_ring _ clears) zero in
-        apart (factor a b k, factor-value, from_same_row field.is_ring b (scale ring (factor a b k) a) wide vb (scale_values field.is_ring (factor a b k) a factor-value va) none))
+        let all_zero = remove-zero ring.is_zero (cleared a b k) k ring.zero in_cleared (zero_passes field.is_ring _ clears) zero in
+        let moved = row_scale ring (factor a b k) a in
+        let values : All ring.IsValue moved = scale-values field.is_ring (factor a b k) a factor-value va in
+        let same : b ≡ moved =
+        row-ext ring (length b) b moved refl (sym wide) (λ j h.
+        same_from_difference field.is_ring _ _ (vb j ring.zero h) (values j ring.zero (let w = wide in omega (arith, w, h)))
+        (sym (get_or-minus ring b moved j ring.zero wide h)
+        ∙ is_zero_row-at field.is_ring (cleared a b k) cleared-values all_zero j (let l = long in omega (arith, l, h)))) in
+        apart (factor a b k, factor-value, same))
 
   pub restricted_form-row : (a b : List K) → All ring.IsValue a → is_zero_row ring a ≡ false → IsRow ring (length a) b → IsRow ring (length a - 1) (restricted_form ring inverse a b)
   restricted_form-row a b va nonzero row =
@@ -117,77 +116,6 @@ module _ {K : Type 0} {ring : RingOf K} {inverse : K → K} (field : IsField rin
       let at = last_nonzero field.is_ring a va nonzero in
       ap (is_zero_row ring) (restricted_form-at a b at.0 va at.1) ∙ restricted-nonzero a b at.0 va row.1 row.0 at.1 apart
 
-  -- ---- rows whose first entry that is not zero is one
-
-  record IsNormal (row : List K) : Type 0 where
-    place : ℕ
-    within : place < length row
-    one : get_or row place ring.zero ≡ ring.one
-    zeros : (j : ℕ) → j < place → get_or row j ring.zero ≡ ring.zero
-
-  scaled-at : (c : K) (row : List K) (k : ℕ) → ring.IsValue c → get_or (scale ring c row) k ring.zero ≡ ring.mul c (get_or row k ring.zero)
-  scaled-at c [] k v = sym (mul_zero field.is_ring c v)
-  scaled-at c (x ∷ row) zero v = refl
-  scaled-at c (x ∷ row) (suc k) v = scaled-at c row k v
-
-  scale-one : (row : List K) → All ring.IsValue row → scale ring ring.one row ≡ row
-  scale-one [] v = refl
-  scale-one (x ∷ row) v = λ i. field.is_ring.one_mul x (All-head ring.IsValue x row v) i ∷ scale-one row (All-tail ring.IsValue x row v) i
-
-  normal-nonzero : (row : List K) → IsNormal row → is_zero_row ring row ≡ false
-  normal-nonzero row normal =
-      list_all_at ring.is_zero row normal.place ring.zero normal.within (ap ring.is_zero normal.one ∙ nonzero_fails field.is_ring ring.one field.is_ring.one_value field.one_zero)
-
-  -- of two such rows neither is a multiple of the other, unless they are equal
-  normal-same : (a b : List K) → All ring.IsValue b → IsNormal a → IsNormal b → IsMultiple ring a b → a ≡ b
-  normal-same a b vb na nb (c, vc, e) =
-      elim (cases_order na.place nb.place) [
-        | inl same ↦ (
-            let one : ring.one ≡ c = sym na.one ∙ at na.place ∙ ap (λ k. ring.mul c (get_or b k ring.zero)) same ∙ ap (ring.mul c) nb.one ∙ laws.mul_one c vc in
-            e ∙ ap (λ s. scale ring s b) (sym one) ∙ scale-one b vb)
-        | inr apart ↦ elim apart [
-          | inl before ↦ absurd (field.one_zero (sym na.one ∙ at na.place ∙ ap (ring.mul c) (nb.zeros na.place before) ∙ mul_zero laws c vc))
-          | inr behind ↦ (
-              let none : c ≡ ring.zero = sym (laws.mul_one c vc) ∙ ap (ring.mul c) (sym nb.one) ∙ sym (at nb.place) ∙ na.zeros nb.place behind in
-              let there : ring.IsValue (get_or b na.place ring.zero) = vb na.place ring.zero in_b in
-              absurd (field.one_zero (sym na.one ∙ at na.place ∙ ap (λ s. ring.mul s (get_or b na.place ring.zero)) none ∙ zero_mul laws _ there)))
-        ]
-      ]
-    where
-      laws : IsRing ring
-      laws = field.is_ring
-
-      at : (k : ℕ) → get_or a k ring.zero ≡ ring.mul c (get_or b k ring.zero)
-      at k = ap (λ row. get_or row k ring.zero) e ∙ scaled-at c b k vc
-
-      in_b : na.place < length b
-      in_b = let within = na.within in let long = ap length e ∙ length-map b (ring.mul c) in omega (arith, within, long)
-
-  module _ (row : List K) (values : All ring.IsValue row) (nonzero : is_zero_row ring row ≡ false) where
-    normalised-normal : IsNormal (normalised ring inverse row)
-    normalised-normal =
-        let laws = field.is_ring in
-        let at = first_nonzero laws row values nonzero in
-        let x = get_or row at.0 ring.zero in
-        let vx = values at.0 ring.zero at.1.within in
-        let vi = field.inverse_value x vx at.1.nonzero in
-        let same : scale ring (inverse x) row ≡ normalised ring inverse row = ap (λ y. scale ring (inverse y) row) (sym (first_entry laws row values at.0 at.1)) in
-        subst IsNormal same (record {
-          place = at.0;
-          within = let within = at.1.within in let long = length-map row (ring.mul (inverse x)) in omega (arith, within, long);
-          one = scaled-at (inverse x) row at.0 vi ∙ field.commutes (inverse x) x vi vx ∙ field.mul_inverse x vx at.1.nonzero;
-          zeros = λ j h. scaled-at (inverse x) row j vi ∙ ap (ring.mul (inverse x)) (at.1.zeros j h) ∙ mul_zero laws (inverse x) vi;
-        })
-
-    normalised-row : (width : ℕ) → length row ≡ width → IsRow ring width (normalised ring inverse row)
-    normalised-row width e =
-        let laws = field.is_ring in
-        let at = first_nonzero laws row values nonzero in
-        let x = get_or row at.0 ring.zero in
-        let vi = field.inverse_value x (values at.0 ring.zero at.1.within) at.1.nonzero in
-        let same : scale ring (inverse x) row ≡ normalised ring inverse row = ap (λ y. scale ring (inverse y) row) (sym (first_entry laws row values at.0 at.1)) in
-        subst (IsRow ring width) same (length-map row (ring.mul (inverse x)) ∙ e, scale_values laws (inverse x) row vi values)
-
   -- ---- all other forms on the hyperplane of one
 
   module _ (a : List K) (others : List (List K)) (can : CanRestrict ring a others) where
@@ -195,23 +123,36 @@ module _ {K : Type 0} {ring : RingOf K} {inverse : K → K} (field : IsField rin
     cut b = normalised ring inverse (restricted_form ring inverse a b)
 
     abbrev Good : List K → Type 0
-    Good row = IsRow ring (length a - 1) row × IsNormal row
+    Good row = IsRow ring (length a - 1) row × IsNormal field row
 
     cut-good : (b : List K) → IsRow ring (length a) b → ¬ (IsMultiple ring b a) → Good (cut b)
     cut-good b row apart =
         let restricted = restricted_form-row a b can.values can.nonzero row in
         let nonzero = restricted_form-nonzero a b can.values can.nonzero row apart in
-        (normalised-row _ restricted.1 nonzero (length a - 1) restricted.0, normalised-normal _ restricted.1 nonzero)
+        (normalised-row field _ restricted.1 nonzero (length a - 1) restricted.0, normalised-normal field _ restricted.1 nonzero)
+
+    -- one form more is kept where its row is not held yet
+    pub cut-more : (k : ℕ) (held : List (List K)) → k < length others → held ≡ first_copies ring (map cut (take k others))
+        → cond (list_any (same_row ring (cut (get_or others k []))) held) held (held ++ cut (get_or others k []) ∷ [])
+        ≡ first_copies ring (map cut (take (k + 1) others))
+    cut-more k held within e =
+        let Fits : List K → Type 0 = λ b. IsRow ring (length a) b × ¬ (IsMultiple ring b a) in
+        let fits : All Fits (take k others) = All-take Fits k others (λ h d l. (can.rows h d l, can.apart h d l)) in
+        let values : All (All ring.IsValue) (map cut (take k others)) =
+        All-map (All ring.IsValue) cut (take k others) (λ h d l. (cut-good (get_or (take k others) h d) (fits h d l).0 (fits h d l).1).0.1) in
+        let b = get_or others k [] in
+        first_copies-push field.is_ring (map cut (take k others)) held (cut b) values (cut-good b (can.rows k [] within) (can.apart k [] within)).0.1 e
+        ∙ ap (first_copies ring) (sym (map_more cut others k [] within))
 
     abbrev kept : List (List K)
-    kept = first_copies ring [] (map cut others)
+    kept = first_copies ring (map cut others)
 
     kept-good : All Good kept
-    kept-good = All-first_copies ring Good [] (map cut others) (All-map Good cut others (λ k d h. cut-good (get_or others k d) (can.rows k d h) (can.apart k d h)))
+    kept-good = All-first_copies ring Good (map cut others) (All-map Good cut others (λ k d h. cut-good (get_or others k d) (can.rows k d h) (can.apart k d h)))
 
     pub kept-few : length kept ≤ length others
     kept-few =
-        let few = length-first_copies ring [] (map cut others) in
+        let few = length-first_copies ring (map cut others) in
         let same = length-map others cut in
         omega (arith, few, same)
 
@@ -219,20 +160,22 @@ module _ {K : Type 0} {ring : RingOf K} {inverse : K → K} (field : IsField rin
     kept-rows k d h = (kept-good k d h).0
 
     pub kept-nonzero : All (λ row. is_zero_row ring row ≡ false) kept
-    kept-nonzero k d h = normal-nonzero (get_or kept k d) (kept-good k d h).1
+    kept-nonzero k d h = normal-nonzero field (get_or kept k d) (kept-good k d h).1
 
     -- a later kept row is no copy of an earlier one
-    kept-differ : (p q : ℕ) → p < q → q < length kept → get_or kept q [] ≢ get_or kept p []
+    kept-differ : (p q : ℕ) → p < q → q < length kept → get_or kept p [] ≢ get_or kept q []
     kept-differ p q before within e =
-        false≢true (sym (first_copies-apart ring [] (map cut others) p q [] before within) ∙ ap (same_row ring (get_or kept q [])) (sym e) ∙ same_row-self field.is_ring (get_or kept q []) (kept-rows q [] within).1)
+        let row = kept-rows p [] (omega (arith, before, within)) in
+        false≢true (sym (first_copies-apart ring (map cut others) p q [] before within)
+        ∙ ap (same_row ring (get_or kept p [])) (sym e) ∙ same_row-self field.is_ring (get_or kept p []) row.1)
 
     pub kept-apart : (p q : ℕ) (x y : List K) → p ≢ q → slice_get kept p ≡ Some x → slice_get kept q ≡ Some y → ¬ (IsMultiple ring x y)
     kept-apart p q x y differ at_p at_q multiple =
         elim (cases_order p q) [
           | inl same ↦ differ same
           | inr apart ↦ elim apart [
-            | inl before ↦ kept-differ p q before in_q (there ∙ sym equal ∙ sym here)
-            | inr behind ↦ kept-differ q p behind in_p (here ∙ equal ∙ sym there)
+            | inl before ↦ kept-differ p q before in_q (here ∙ equal ∙ sym there)
+            | inr behind ↦ kept-differ q p behind in_p (there ∙ sym equal ∙ sym here)
           ]
         ]
       where
@@ -252,7 +195,7 @@ module _ {K : Type 0} {ring : RingOf K} {inverse : K → K} (field : IsField rin
         equal =
             let good_x = subst Good here (kept-good p [] in_p) in
             let good_y = subst Good there (kept-good q [] in_q) in
-            normal-same x y good_y.0.1 good_x.1 good_y.1 multiple
+            normal-same field x y good_y.0.1 good_x.1 good_y.1 multiple
 
   module _ (numbers : Numbering K) (arr : Arrangement K) (lawful : IsArrangement ring numbers arr) (i : ℕ) (low : 1 ≤ i) (high : i ≤ length arr.forms) where
     inside : i - 1 < length arr.forms
@@ -273,13 +216,13 @@ module _ {K : Type 0} {ring : RingOf K} {inverse : K → K} (field : IsField rin
 
     -- what its parts make
     pub restriction-from : (d : ℕ) (a : List K) (others rows : List (List K)) → d ≡ arr.dim → a ≡ form arr i → others ≡ (deletion arr i).forms
-        → rows ≡ first_copies ring [] (map (λ b. normalised ring inverse (restricted_form ring inverse a b)) others) → record { dim = d - 1; forms = rows } ≡ restriction ring inverse arr i
+        → rows ≡ first_copies ring (map (λ b. normalised ring inverse (restricted_form ring inverse a b)) others) → record { dim = d - 1; forms = rows } ≡ restriction ring inverse arr i
     unfolding restriction
     restriction-from d a others rows at_dim at_a at_others at_rows =
-        let all : rows ≡ first_copies ring [] (map (λ b. normalised ring inverse (restricted_form ring inverse (form arr i) b)) (deletion arr i).forms) =
+        let all : rows ≡ first_copies ring (map (λ b. normalised ring inverse (restricted_form ring inverse (form arr i) b)) (deletion arr i).forms) =
         at_rows
-        ∙ ap (λ x. first_copies ring [] (map (λ b. normalised ring inverse (restricted_form ring inverse x b)) others)) at_a
-        ∙ ap (λ xs. first_copies ring [] (map (λ b. normalised ring inverse (restricted_form ring inverse (form arr i) b)) xs)) at_others in
+        ∙ ap (λ x. first_copies ring (map (λ b. normalised ring inverse (restricted_form ring inverse x b)) others)) at_a
+        ∙ ap (λ xs. first_copies ring (map (λ b. normalised ring inverse (restricted_form ring inverse (form arr i) b)) xs)) at_others in
         λ j. record { dim = at_dim j - 1; forms = all j }
 
     pub restriction-lawful : 2 ≤ arr.dim → IsArrangement ring numbers (restriction ring inverse arr i)
@@ -297,7 +240,7 @@ module _ {K : Type 0} {ring : RingOf K} {inverse : K → K} (field : IsField rin
         record {
           dim_low = omega (arith, two);
           dim_high = omega (arith, greatest);
-          rows = subst (λ l. All (IsRow ring (l - 1)) (first_copies ring [] (map (cut a others can) others))) width (kept-rows a others can);
+          rows = subst (λ l. All (IsRow ring (l - 1)) (first_copies ring (map (cut a others can) others))) width (kept-rows a others can);
           few_forms = omega (arith, few, one, most);
           below_order = omega (arith, few, one, below);
           no_zero = kept-nonzero a others can;
@@ -306,6 +249,6 @@ module _ {K : Type 0} {ring : RingOf K} {inverse : K → K} (field : IsField rin
 
     -- what its parts make is lawful
     pub lawful-from : (d : ℕ) (a : List K) (others rows : List (List K)) → d ≡ arr.dim → a ≡ form arr i → others ≡ (deletion arr i).forms
-        → rows ≡ first_copies ring [] (map (λ b. normalised ring inverse (restricted_form ring inverse a b)) others) → 2 ≤ arr.dim → IsArrangement ring numbers (record { dim = d - 1; forms = rows })
+        → rows ≡ first_copies ring (map (λ b. normalised ring inverse (restricted_form ring inverse a b)) others) → 2 ≤ arr.dim → IsArrangement ring numbers (record { dim = d - 1; forms = rows })
     lawful-from d a others rows at_dim at_a at_others at_rows two =
         subst (IsArrangement ring numbers) (sym (restriction-from d a others rows at_dim at_a at_others at_rows)) (restriction-lawful two)

@@ -7,10 +7,11 @@ use Rattle.std.proofs.lemmas.List.Elements.{All-head, All-tail, All-get_or}
 use Rattle.std.proofs.lemmas.List.FromFn.{length-range_with_len, get_or-range_with_len}
 use Rattle.hp_algebra.specs.Ring.{RingOf, Numbering, IsRing, IsDomain, IsNumbering, dot_of}
 use Rattle.hp_algebra.proofs.Dots.{dot_of_value}
-use Rattle.hp_arr.specs.Arrangement.{Arrangement, IsArrangement, IsRow, is_zero_row, LiesOff, indices, lies_in, ComesBefore, IsLeastPointOff}
+use Rattle.hp_arr.specs.Arrangement.{Arrangement, IsArrangement, LiesOff, indices, lies_in, ComesBefore, IsLeastPointOff}
+use Rattle.hp_algebra.specs.Rows.{IsRow, is_zero_row}
 use Rattle.hp_arr.specs.PointSearch.{IsClosed, NoneClosed, HasRoom, IsNext}
 use Rattle.hp_arr.proofs.Closing.{zero_row-all, one_closes, closed_value, closed_whole}
-use Rattle.hp_arr.proofs.Pigeonhole.{as_many}
+use Rattle.hp_lists.proofs.Pigeonhole.{as_many}
 
 -- no form is zero at x
 abbrev pub IsOff : {K : Type 0} → RingOf K → List (List K) → List K → Type 0

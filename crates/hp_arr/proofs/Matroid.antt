@@ -6,14 +6,14 @@ use mathlib.Core.Logic.{inl, inr}
 use mathlib.Core.Path.{refl, sym, ap, ◌∙◌, subst}
 use native.Mathlib.Omega.{arith}
 use Rattle.hp_algebra.specs.Ring.{RingOf, Numbering}
-use Rattle.hp_algebra.proofs.Members.{Contains-here, Contains-later, Contains-filter, filter-Contains}
-use Rattle.hp_algebra.proofs.Rising.{Rises, Ordered-filter, rising-ext}
+use Rattle.hp_lists.proofs.Members.{Contains-here, Contains-later, Contains-filter, filter-Contains}
+use Rattle.hp_lists.proofs.Ordered.{Rises, Ordered-filter, rising-ext}
 use Rattle.hp_sets.specs.Sets.{Set, IsSetWithin, contains, union, meet, with_member}
 use Rattle.hp_sets.proofs.Parts.{IsPart, part-more, part-join, part-behind, part-turn}
 use Rattle.hp_sets.proofs.SetLaws.{contains-Contains, Contains-contains}
 use Rattle.hp_sets.proofs.SetMembers.{with-set, union-members, meet-members}
 use Rattle.hp_arr.specs.Arrangement.{Arrangement}
-use Rattle.hp_arr.specs.Flats.{cut, flat, rank, IsFlat}
+use Rattle.hp_arr.specs.Flats.{cut, closure, rank, IsFlat}
 use Rattle.hp_arr.proofs.OverField.{IsOverField}
 use Rattle.hp_arr.proofs.Cuts.{IsIndex, AreIndices, set-indices, indices-tail, flat-indices, flat-monotone, flat-cut, flat-keeps, flat-with, cut-same, cut-keeps, cut-more, IsFlat-flat, flat-of_flat, IsFlat-set}
 use Rattle.hp_arr.proofs.Ranks.{rank-cut, rank-flat, rank-monotone, rank-low, rank-adds, rank-keeps, in_flat, rank-step, rank-with}
@@ -22,23 +22,23 @@ use Rattle.hp_arr.proofs.FlatGrowth.{flat-grows}
 module _ {K : Type 0} {ring : RingOf K} {inverse : K → K} {numbers : Numbering K} {arr : Arrangement K} (over : IsOverField ring inverse numbers arr) where
   -- ---- one member more
 
-  pub rank-with_outside : (s : Set) (j : ℕ) → IsSetWithin (length arr.forms) s → IsIndex arr j → (Contains (flat ring numbers arr s) j → ⊥) → rank ring numbers arr (with_member s j) ≡ suc (rank ring numbers arr s)
+  pub rank-with_outside : (s : Set) (j : ℕ) → IsSetWithin (length arr.forms) s → IsIndex arr j → (Contains (closure ring numbers arr s) j → ⊥) → rank ring numbers arr (with_member s j) ≡ suc (rank ring numbers arr s)
   rank-with_outside s j h r out = rank-with over s j h r ∙ rank-adds over s j r out
 
-  pub rank-with_inside : (s : Set) (j : ℕ) → IsSetWithin (length arr.forms) s → Contains (flat ring numbers arr s) j → rank ring numbers arr (with_member s j) ≡ rank ring numbers arr s
+  pub rank-with_inside : (s : Set) (j : ℕ) → IsSetWithin (length arr.forms) s → Contains (closure ring numbers arr s) j → rank ring numbers arr (with_member s j) ≡ rank ring numbers arr s
   rank-with_inside s j h c = rank-with over s j h (flat-indices over s j c) ∙ rank-keeps over s j c
 
-  pub flat-with_inside : (s : Set) (j : ℕ) → IsSetWithin (length arr.forms) s → Contains (flat ring numbers arr s) j → flat ring numbers arr (with_member s j) ≡ flat ring numbers arr s
+  pub flat-with_inside : (s : Set) (j : ℕ) → IsSetWithin (length arr.forms) s → Contains (closure ring numbers arr s) j → closure ring numbers arr (with_member s j) ≡ closure ring numbers arr s
   flat-with_inside s j h c = flat-with over s j h (flat-indices over s j c) ∙ flat-keeps over s j c
 
   -- Exchange: where j comes into the closure with i, i comes into it with j.
-  pub exchange : (s : Set) (i j : ℕ) → IsIndex arr i → Contains (flat ring numbers arr (i ∷ s)) j → (Contains (flat ring numbers arr s) j → ⊥) → Contains (flat ring numbers arr (j ∷ s)) i
+  pub exchange : (s : Set) (i j : ℕ) → IsIndex arr i → Contains (closure ring numbers arr (i ∷ s)) j → (Contains (closure ring numbers arr s) j → ⊥) → Contains (closure ring numbers arr (j ∷ s)) i
   exchange s i j ri c out = step (in_flat over (j ∷ s) i)
     where
       clash : (A B C D E : ℕ) → A ≡ suc B → B ≡ suc E → A ≡ C → C ≡ D → D ≤ suc E → ⊥
       clash A B C D E a b e k l = omega arith
 
-      step : Contains (flat ring numbers arr (j ∷ s)) i ⊎ (Contains (flat ring numbers arr (j ∷ s)) i → ⊥) → Contains (flat ring numbers arr (j ∷ s)) i
+      step : Contains (closure ring numbers arr (j ∷ s)) i ⊎ (Contains (closure ring numbers arr (j ∷ s)) i → ⊥) → Contains (closure ring numbers arr (j ∷ s)) i
       step (inl d) = d
       step (inr d) =
           let a = rank-adds over (j ∷ s) i ri d in
@@ -52,7 +52,7 @@ module _ {K : Type 0} {ring : RingOf K} {inverse : K → K} {numbers : Numbering
   pub rank-diminishes : (s t : Set) (j : ℕ) → IsIndex arr j → IsPart s t → rank ring numbers arr (j ∷ t) + rank ring numbers arr s ≤ rank ring numbers arr (j ∷ s) + rank ring numbers arr t
   rank-diminishes s t j h p = step (in_flat over s j)
     where
-      step : Contains (flat ring numbers arr s) j ⊎ (Contains (flat ring numbers arr s) j → ⊥) → rank ring numbers arr (j ∷ t) + rank ring numbers arr s ≤ rank ring numbers arr (j ∷ s) + rank ring numbers arr t
+      step : Contains (closure ring numbers arr s) j ⊎ (Contains (closure ring numbers arr s) j → ⊥) → rank ring numbers arr (j ∷ t) + rank ring numbers arr s ≤ rank ring numbers arr (j ∷ s) + rank ring numbers arr t
       step (inl c) =
           let a = rank-keeps over s j c in
           let b = rank-keeps over t j (flat-monotone over s t p j c) in
@@ -98,13 +98,13 @@ module _ {K : Type 0} {ring : RingOf K} {inverse : K → K} {numbers : Numbering
   -- ---- independent sets
 
   -- the first member of an independent list is outside the closure of the others, which are independent
-  pub independent-tail : (i : ℕ) (s : Set) → AreIndices arr (i ∷ s) → rank ring numbers arr (i ∷ s) ≡ length (i ∷ s) → (rank ring numbers arr s ≡ length s) × (Contains (flat ring numbers arr s) i → ⊥)
+  pub independent-tail : (i : ℕ) (s : Set) → AreIndices arr (i ∷ s) → rank ring numbers arr (i ∷ s) ≡ length (i ∷ s) → (rank ring numbers arr s ≡ length s) × (Contains (closure ring numbers arr s) i → ⊥)
   independent-tail i s h e =
       let a = rank-step over s i (h i (Contains-here i s)) in
       let b = rank-low over s in
       (omega arith, λ c. let k = rank-keeps over s i c in omega arith)
 
-  pub independent-more : (i : ℕ) (s : Set) → IsIndex arr i → rank ring numbers arr s ≡ length s → (Contains (flat ring numbers arr s) i → ⊥) → rank ring numbers arr (i ∷ s) ≡ length (i ∷ s)
+  pub independent-more : (i : ℕ) (s : Set) → IsIndex arr i → rank ring numbers arr s ≡ length s → (Contains (closure ring numbers arr s) i → ⊥) → rank ring numbers arr (i ∷ s) ≡ length (i ∷ s)
   independent-more i s h e c = rank-adds over s i h c ∙ ap (λ m. suc m) e
 
   -- what is part of an independent set is independent
@@ -140,7 +140,7 @@ pub record IsMadeOf {K : Type 0} (ring : RingOf K) (numbers : Numbering K) (arr 
   pub has_rank : rank ring numbers arr f ≡ r
   pub index : IsIndex arr j
   pub outside : Contains f j → ⊥
-  pub makes : g ≡ flat ring numbers arr (with_member f j)
+  pub makes : g ≡ closure ring numbers arr (with_member f j)
 
 module _ {K : Type 0} {ring : RingOf K} {inverse : K → K} {numbers : Numbering K} {arr : Arrangement K} (over : IsOverField ring inverse numbers arr) where
   -- every set has a basis: leave out each member that lies in the closure of the ones kept after it
@@ -151,7 +151,7 @@ module _ {K : Type 0} {ring : RingOf K} {inverse : K → K} {numbers : Numbering
       none a l = omega arith
   basis (i ∷ s) h = step (basis s (indices-tail arr i s h))
     where
-      pick : (t : Set) → IsBasis ring numbers arr s t → Contains (flat ring numbers arr t) i ⊎ (Contains (flat ring numbers arr t) i → ⊥) → (t : Set) × IsBasis ring numbers arr (i ∷ s) t
+      pick : (t : Set) → IsBasis ring numbers arr s t → Contains (closure ring numbers arr t) i ⊎ (Contains (closure ring numbers arr t) i → ⊥) → (t : Set) × IsBasis ring numbers arr (i ∷ s) t
       pick t b (inl c) = (
         t,
         record {
@@ -178,7 +178,7 @@ module _ {K : Type 0} {ring : RingOf K} {inverse : K → K} {numbers : Numbering
 
   -- A flat with a further form is a flat of the next rank.
   pub flat-above : (f : Set) (j : ℕ) → IsFlat ring numbers arr f → IsIndex arr j → (Contains f j → ⊥)
-      → IsFlat ring numbers arr (flat ring numbers arr (with_member f j)) × (rank ring numbers arr (flat ring numbers arr (with_member f j)) ≡ suc (rank ring numbers arr f))
+      → IsFlat ring numbers arr (closure ring numbers arr (with_member f j)) × (rank ring numbers arr (closure ring numbers arr (with_member f j)) ≡ suc (rank ring numbers arr f))
   flat-above f j h r out =
       let s = IsFlat-set over f h in
       let w = with-set (length arr.forms) f j s r.1 in (
@@ -203,7 +203,7 @@ module _ {K : Type 0} {ring : RingOf K} {inverse : K → K} {numbers : Numbering
           let it = indices-tail arr j t i in
           let d = independent-tail over j t i b.independent in
           let rj = i j (Contains-here j t) in (
-            flat ring numbers arr t,
+            closure ring numbers arr t,
             j,
             record {
               is_flat = IsFlat-flat over t it;

@@ -6,24 +6,24 @@ use mathlib.Core.Logic.{inl, inr}
 use mathlib.Core.Path.{refl, sym, ap, ◌∙◌, subst}
 use native.Mathlib.Omega.{arith}
 use Rattle.hp_algebra.specs.Ring.{RingOf, Numbering}
-use Rattle.hp_algebra.proofs.Members.{first_true, second_true, not_both, Contains-cases, all-from, decide}
-use Rattle.hp_algebra.proofs.Rising.{members_range}
+use Rattle.hp_lists.proofs.Members.{first_true, second_true, not_both, Contains-cases, all-from, decide, filter-shorter}
+use Rattle.hp_lists.proofs.Ranges.{members_range}
 use Rattle.hp_sets.specs.Sets.{Set, IsSetWithin, contains, is_within, is_properly_within, with_member}
 use Rattle.hp_sets.proofs.Parts.{IsPart}
 use Rattle.hp_sets.proofs.SetLaws.{contains-Contains, Contains-contains}
 use Rattle.hp_sets.proofs.SetWithin.{is_within-members}
 use Rattle.hp_arr.specs.Arrangement.{Arrangement, lies_in, indices}
-use Rattle.hp_arr.specs.Flats.{points, cut, flat, rank, total_rank, IsFlat}
-use Rattle.hp_arr.proofs.Lists.{filter-shorter}
-use Rattle.hp_arr.proofs.Powers.{exponents}
-use Rattle.hp_arr.proofs.OverField.{IsOverField}
-use Rattle.hp_arr.proofs.Points.{points-rows, rows-points, two_elements}
+use Rattle.hp_arr.specs.Flats.{points, cut, closure, rank, total_rank, IsFlat}
+use Rattle.hp_lists.proofs.Powers.{exponents}
+use Rattle.hp_arr.proofs.OverField.{IsOverField, field_of}
+use Rattle.hp_arr.proofs.SpacePoints.{points-rows, rows-points}
+use Rattle.hp_algebra.proofs.Elements.{two_elements}
 use Rattle.hp_arr.proofs.Counting.{lies_in_all, cut-divides, cut-exponent, exponent_low, rank-spec}
 use Rattle.hp_arr.proofs.Cuts.{IsIndex, AreIndices, members-flat, flat-indices, lies-part, cut-flat, cut-keeps, cut-with, flat-of_flat}
 
 module _ {K : Type 0} {ring : RingOf K} {inverse : K → K} {numbers : Numbering K} {arr : Arrangement K} (over : IsOverField ring inverse numbers arr) where
   two : 2 ≤ numbers.order
-  two = two_elements over.field over.numbering
+  two = two_elements (field_of over)
 
   positive : 1 ≤ numbers.order ^ arr.dim
   positive = one-le-pow arr.dim numbers.order (above numbers.order two)
@@ -50,8 +50,8 @@ module _ {K : Type 0} {ring : RingOf K} {inverse : K → K} {numbers : Numbering
   rank-cut s t e = rank-unique s (rank ring numbers arr t) (ap (λ c. length c * numbers.order ^ rank ring numbers arr t) e ∙ rank-spec over t)
 
   -- the closure has the rank of its set
-  pub rank-flat : (s : Set) → AreIndices arr s → rank ring numbers arr (flat ring numbers arr s) ≡ rank ring numbers arr s
-  rank-flat s h = rank-cut (flat ring numbers arr s) s (cut-flat over s h)
+  pub rank-flat : (s : Set) → AreIndices arr s → rank ring numbers arr (closure ring numbers arr s) ≡ rank ring numbers arr s
+  rank-flat s h = rank-cut (closure ring numbers arr s) s (cut-flat over s h)
 
   -- a greater set has no more points in its cut
   pub cut-fewer : (s t : Set) → IsPart s t → length (cut ring numbers arr t) ≤ length (cut ring numbers arr s)
@@ -71,7 +71,7 @@ module _ {K : Type 0} {ring : RingOf K} {inverse : K → K} {numbers : Numbering
   rank-dim s = exponent_low over _ _ (rank-spec over s)
 
   -- a form outside the closure raises the rank by one
-  pub rank-adds : (s : Set) (j : ℕ) → IsIndex arr j → (Contains (flat ring numbers arr s) j → ⊥) → rank ring numbers arr (j ∷ s) ≡ suc (rank ring numbers arr s)
+  pub rank-adds : (s : Set) (j : ℕ) → IsIndex arr j → (Contains (closure ring numbers arr s) j → ⊥) → rank ring numbers arr (j ∷ s) ≡ suc (rank ring numbers arr s)
   rank-adds s j r out = step (decide (lies_in_all ring arr s) (lies_in ring arr j) (points ring numbers arr.dim))
     where
       move : (c q m : ℕ) → c * (m * q) ≡ (q * c) * m
@@ -80,30 +80,30 @@ module _ {K : Type 0} {ring : RingOf K} {inverse : K → K} {numbers : Numbering
       step : ((x : List K) → Contains (points ring numbers arr.dim) x → lies_in_all ring arr s x ≡ true → lies_in ring arr j x ≡ true)
           ⊎ ((x : List K) × Contains (points ring numbers arr.dim) x × (lies_in_all ring arr s x ≡ true) × (lies_in ring arr j x ≡ false))
           → rank ring numbers arr (j ∷ s) ≡ suc (rank ring numbers arr s)
-      step (inl all) = absurd (out (members-flat over s j r (λ x rx e. all x (rows-points over.field.is_ring over.numbering arr.dim x rx) e)))
+      step (inl all) = absurd (out (members-flat over s j r (λ x rx e. all x (rows-points (field_of over) arr.dim x rx) e)))
       step (inr w) = rank-unique (j ∷ s) _
           (ap (λ m. length (cut ring numbers arr (j ∷ s)) * m) (pow-suc numbers.order (rank ring numbers arr s))
           ∙ move (length (cut ring numbers arr (j ∷ s))) numbers.order (numbers.order ^ rank ring numbers arr s)
-          ∙ ap (λ c. c * numbers.order ^ rank ring numbers arr s) (sym (cut-divides over s j w.0 (points-rows over.field.is_ring over.numbering arr.dim w.0 w.1) w.2 w.3))
+          ∙ ap (λ c. c * numbers.order ^ rank ring numbers arr s) (sym (cut-divides over s j w.0 (points-rows (field_of over) arr.dim w.0 w.1) w.2 w.3))
           ∙ rank-spec over s)
 
   -- a form inside the closure keeps it
-  pub rank-keeps : (s : Set) (j : ℕ) → Contains (flat ring numbers arr s) j → rank ring numbers arr (j ∷ s) ≡ rank ring numbers arr s
+  pub rank-keeps : (s : Set) (j : ℕ) → Contains (closure ring numbers arr s) j → rank ring numbers arr (j ∷ s) ≡ rank ring numbers arr s
   rank-keeps s j c = rank-cut (j ∷ s) s (cut-keeps over s j c)
 
   -- a hyperplane is in a closure or is not
-  pub in_flat : (s : Set) (j : ℕ) → Contains (flat ring numbers arr s) j ⊎ (Contains (flat ring numbers arr s) j → ⊥)
-  in_flat s j = step (contains (flat ring numbers arr s) j) refl
+  pub in_flat : (s : Set) (j : ℕ) → Contains (closure ring numbers arr s) j ⊎ (Contains (closure ring numbers arr s) j → ⊥)
+  in_flat s j = step (contains (closure ring numbers arr s) j) refl
     where
-      step : (b : Bool) → contains (flat ring numbers arr s) j ≡ b → Contains (flat ring numbers arr s) j ⊎ (Contains (flat ring numbers arr s) j → ⊥)
-      step true e = inl (contains-Contains (flat ring numbers arr s) j e)
-      step false e = inr (λ c. not_both _ (Contains-contains (flat ring numbers arr s) j c) e)
+      step : (b : Bool) → contains (closure ring numbers arr s) j ≡ b → Contains (closure ring numbers arr s) j ⊎ (Contains (closure ring numbers arr s) j → ⊥)
+      step true e = inl (contains-Contains (closure ring numbers arr s) j e)
+      step false e = inr (λ c. not_both _ (Contains-contains (closure ring numbers arr s) j c) e)
 
   -- a form adds at most one to the rank
   pub rank-step : (s : Set) (j : ℕ) → IsIndex arr j → rank ring numbers arr (j ∷ s) ≤ suc (rank ring numbers arr s)
   rank-step s j h = step (in_flat s j)
     where
-      step : Contains (flat ring numbers arr s) j ⊎ (Contains (flat ring numbers arr s) j → ⊥) → rank ring numbers arr (j ∷ s) ≤ suc (rank ring numbers arr s)
+      step : Contains (closure ring numbers arr s) j ⊎ (Contains (closure ring numbers arr s) j → ⊥) → rank ring numbers arr (j ∷ s) ≤ suc (rank ring numbers arr s)
       step (inl c) = let e = rank-keeps s j c in omega arith
       step (inr c) = let e = rank-adds s j h c in omega arith
 

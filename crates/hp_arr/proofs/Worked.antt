@@ -1,10 +1,13 @@
 -- Worked values of the definitions, which the checker computes: the three lines x, y and x - y in the plane over 5 elements.
-use Rattle.std.specs.Prelude.{◌≡◌, ℕ, true, false, [], ◌∷◌, Some, None, refl}
-use Rattle.hp_algebra.specs.Ring.{RingOf, Numbering}
+use Rattle.std.specs.Prelude.{◌≡◌, ℕ, ◌^◌, ◌%◌, true, false, [], ◌∷◌, Some, None, refl}
+use Rattle.hp_algebra.specs.Ring.{RingOf, Numbering, elements}
 use Rattle.hp_modp.specs.Residues.{residue_ring, residue_numbers}
 use Rattle.hp_arr.specs.Arrangement.{Arrangement}
-use Rattle.hp_arr.specs.Flats.{points, cut, flat, rank, is_dependent, is_circuit}
-use Rattle.hp_arr.specs.FormFaults.{elements, is_multiple, form_fault}
+use Rattle.hp_arr.specs.Circuits.{circuits, broken_circuits, is_nbc, nbc_sets, nbc_sets_of_size}
+use Rattle.hp_arr.specs.Operations.{first_copies, normalised}
+use Rattle.hp_arr.specs.Flats.{points, cut, closure, rank, is_dependent, is_circuit}
+use Rattle.hp_arr.specs.FormFaults.{form_fault}
+use Rattle.hp_algebra.specs.Rows.{is_multiple}
 use Rattle.hp_arr.specs.declared.fault.ArrFault.TheVariants.{ZeroForm, Repeated, TooMany}
 use Rattle.hp_sets.specs.Sets.{sets_within}
 
@@ -21,12 +24,12 @@ cut_of_two : cut R N three_lines (1 ∷ 2 ∷ []) ≡ (0 ∷ 0 ∷ []) ∷ []
 unfolding cut points elements
 cut_of_two = refl
 
-closure_of_none : flat R N three_lines [] ≡ []
-unfolding flat cut points elements
+closure_of_none : closure R N three_lines [] ≡ []
+unfolding closure cut points elements
 closure_of_none = refl
 
-closure_of_two : flat R N three_lines (1 ∷ 2 ∷ []) ≡ 1 ∷ 2 ∷ 3 ∷ []
-unfolding flat cut points elements
+closure_of_two : closure R N three_lines (1 ∷ 2 ∷ []) ≡ 1 ∷ 2 ∷ 3 ∷ []
+unfolding closure cut points elements
 closure_of_two = refl
 
 rank_of_one : rank R N three_lines (2 ∷ []) ≡ 1
@@ -44,6 +47,28 @@ two_independent = refl
 three_circuit : is_circuit R N three_lines (1 ∷ 2 ∷ 3 ∷ []) ≡ true
 unfolding is_circuit is_dependent rank cut points elements sets_within
 three_circuit = refl
+
+one_circuit : circuits R N three_lines ≡ (1 ∷ 2 ∷ 3 ∷ []) ∷ []
+unfolding circuits is_circuit is_dependent rank cut points elements sets_within
+one_circuit = refl
+
+one_broken_circuit : broken_circuits R N three_lines ≡ (2 ∷ 3 ∷ []) ∷ []
+unfolding broken_circuits circuits is_circuit is_dependent rank cut points elements sets_within
+one_broken_circuit = refl
+
+unbroken : nbc_sets R N three_lines ≡ [] ∷ (1 ∷ []) ∷ (2 ∷ []) ∷ (3 ∷ []) ∷ (1 ∷ 2 ∷ []) ∷ (1 ∷ 3 ∷ []) ∷ []
+unfolding nbc_sets is_nbc broken_circuits circuits is_circuit is_dependent rank cut points elements sets_within
+unbroken = refl
+
+unbroken_pairs : nbc_sets_of_size R N three_lines 2 ≡ (1 ∷ 2 ∷ []) ∷ (1 ∷ 3 ∷ []) ∷ []
+unfolding nbc_sets_of_size nbc_sets is_nbc broken_circuits circuits is_circuit is_dependent rank cut points elements sets_within
+unbroken_pairs = refl
+
+copies_dropped : first_copies R ((1 ∷ 2 ∷ []) ∷ (0 ∷ 1 ∷ []) ∷ (1 ∷ 2 ∷ []) ∷ (0 ∷ 1 ∷ []) ∷ (1 ∷ 2 ∷ 0 ∷ []) ∷ []) ≡ (1 ∷ 2 ∷ []) ∷ (0 ∷ 1 ∷ []) ∷ (1 ∷ 2 ∷ 0 ∷ []) ∷ []
+copies_dropped = refl
+
+normalised_row : normalised R (λ x. (x ^ 3) % 5) (0 ∷ 3 ∷ 4 ∷ []) ≡ 0 ∷ 1 ∷ 3 ∷ []
+normalised_row = refl
 
 faultless : form_fault R N three_lines.forms ≡ None
 unfolding is_multiple elements

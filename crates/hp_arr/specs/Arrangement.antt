@@ -1,15 +1,15 @@
 -- Hyperplane arrangements over a finite field, and the points off their hyperplanes.
-use Rattle.std.specs.Prelude.{◌≡◌, ◌≢◌, ◌⊎◌, ℕ, ◌-◌, ◌<◌, ◌≤◌, Bool, IsFalse, List, [], ◌∷◌, map, length, All, slice_index_or, slice_get, Some}
+use Rattle.std.specs.Prelude.{◌≡◌, ◌≢◌, ◌⊎◌, ℕ, ◌-◌, ◌<◌, ◌≤◌, Bool, IsFalse, List, [], ◌∷◌, length, All, slice_index_or, slice_get, Some}
 use Rattle.hp_algebra.specs.Ring.{RingOf, Numbering, dot_of}
-use Rattle.hp_algebra.specs.Lists.{one_to, list_all}
-use Rattle.hp_arr.specs.declared.fault.TheConstants.{MAX_DIM, MAX_FORMS}
+use Rattle.hp_lists.specs.Lists.{one_to}
+use Rattle.hp_algebra.specs.Rows.{IsRow, IsMultiple, is_zero_row}
 
 -- the greatest dimension, and the greatest number of forms
 abbrev pub max_dim : ℕ
-max_dim = MAX_DIM
+max_dim = 8
 
 abbrev pub max_forms : ℕ
-max_forms = MAX_FORMS
+max_forms = 60
 
 -- A dimension, and a list of linear forms, each the list of its coefficients.
 pub record Arrangement (K : Type 0) : Type 0 where
@@ -25,29 +25,12 @@ abbrev pub indices : {K : Type 0} → Arrangement K → List ℕ
 indices arr = one_to (length arr.forms)
 
 module _ {K : Type 0} (ring : RingOf K) where
-  open ring use {mul, is_zero, IsValue}
-
-  -- A list of coefficients, or a point: so many values.
-  abbrev pub IsRow : ℕ → List K → Type 0
-  IsRow width row = (length row ≡ width) × All IsValue row
-
-  abbrev pub is_zero_row : List K → Bool
-  is_zero_row row = list_all is_zero row
-
-  -- each entry times c
-  abbrev pub scale : K → List K → List K
-  scale c row = map (mul c) row
-
-  -- `a` is `c` times `b` for some value `c`
-  abbrev pub IsMultiple : List K → List K → Type 0
-  IsMultiple a b = (c : K) × IsValue c × (a ≡ scale c b)
-
   -- the value of form i at a point, and whether the point lies in the hyperplane H_i
   abbrev pub value : Arrangement K → ℕ → List K → K
   value arr i x = dot_of ring (form arr i) x
 
   abbrev pub lies_in : Arrangement K → ℕ → List K → Bool
-  lies_in arr i x = is_zero (value arr i x)
+  lies_in arr i x = ring.is_zero (value arr i x)
 
   -- the point lies in no hyperplane
   abbrev pub LiesOff : Arrangement K → List K → Type 0
@@ -75,3 +58,7 @@ module _ {K : Type 0} (ring : RingOf K) (numbers : Numbering K) where
     pub point : IsRow ring arr.dim x
     pub off : LiesOff ring arr x
     pub least : (y : List K) → IsRow ring arr.dim y → LiesOff ring arr y → ¬ (ComesBefore numbers y x)
+
+  -- there is such a point
+  abbrev pub HasLeastPointOff : Arrangement K → Type 0
+  HasLeastPointOff arr = (x : List K) × IsLeastPointOff arr x

@@ -2,12 +2,11 @@
 use Rattle.std.specs.Prelude.{◌≡◌, ℕ, ◌+◌, ◌*◌, ◌^◌, ◌==◌, nat_lt, Bool, not, ◌&&◌, List, length, filter, map, flat_map}
 use Rattle.std.specs.declared.cmp.Ordering.{Ordering}
 use Rattle.std.specs.Ordering.{nat_cmp, ordering_then}
-use Rattle.hp_algebra.specs.Ring.{RingOf, Numbering}
-use Rattle.hp_algebra.specs.Lists.{below, first_below, words_over, list_all, list_any}
+use Rattle.hp_algebra.specs.Ring.{RingOf, Numbering, elements}
+use Rattle.hp_lists.specs.Lists.{below, first_below, words_over, list_all, list_any}
 use Rattle.hp_sets.specs.Sets.{Set, IsSetWithin, cmp_listed, sets_within, is_within, is_properly_within}
 use Rattle.hp_sets.specs.declared.flat.Flat.{Flat}
 use Rattle.hp_arr.specs.Arrangement.{Arrangement, indices, lies_in}
-use Rattle.hp_arr.specs.FormFaults.{elements}
 
 -- the smaller rank first, and flats of one rank as sets are listed
 abbrev pub cmp_ranked : Flat → Flat → Ordering
@@ -23,12 +22,12 @@ module _ {K : Type 0} (ring : RingOf K) (numbers : Numbering K) where
   cut arr s = filter (λ x. list_all (λ i. lies_in ring arr i x) s) (points arr.dim)
 
   -- the closure of a set, which is a flat: the hyperplanes that contain the cut
-  unfoldable pub flat : Arrangement K → Set → Set
-  flat arr s = filter (λ j. list_all (lies_in ring arr j) (cut arr s)) (indices arr)
+  unfoldable pub closure : Arrangement K → Set → Set
+  closure arr s = filter (λ j. list_all (lies_in ring arr j) (cut arr s)) (indices arr)
 
   -- a set is a flat where it is the closure of some set of hyperplanes
   abbrev pub IsFlat : Arrangement K → Set → Type 0
-  IsFlat arr f = (s : Set) × IsSetWithin (length arr.forms) s × (f ≡ flat arr s)
+  IsFlat arr f = (s : Set) × IsSetWithin (length arr.forms) s × (f ≡ closure arr s)
 
   -- the rank of a set: the r from 0 to the dimension with |cut| p^r = p^dim
   unfoldable pub rank : Arrangement K → Set → ℕ
@@ -40,7 +39,7 @@ module _ {K : Type 0} (ring : RingOf K) (numbers : Numbering K) where
 
   -- whether a set is its own closure
   unfoldable pub is_flat : Arrangement K → Set → Bool
-  is_flat arr s = is_within (flat arr s) s && is_within s (flat arr s)
+  is_flat arr s = is_within (closure arr s) s && is_within s (closure arr s)
 
   -- the flats of one rank, as sets are listed
   unfoldable pub flats_of_rank : Arrangement K → ℕ → List Set

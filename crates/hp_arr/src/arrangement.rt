@@ -1,16 +1,17 @@
 //! An arrangement of hyperplanes: a dimension and a list of linear forms.
 
 ghost use Rattle.std.specs.Prelude.{◌≡◌, ◌↔◌, ◌⊎◌, ◌+◌, ◌-◌, ◌≤◌, ◌<◌, ◌^◌, [], IfOk, IfErr, OnOk, IsTrue, None, Some, All, length, map};
-ghost use Rattle.hp_arr.specs.Arrangement.{IsArrangement, IsRow, form, value, IsLeastPointOff};
+ghost use Rattle.hp_arr.specs.Arrangement.{IsArrangement, max_dim, form, value, IsLeastPointOff, HasLeastPointOff};
+ghost use Rattle.hp_algebra.specs.Rows.{IsRow};
 ghost use Rattle.hp_arr.specs.FormFaults.{form_fault};
 ghost use Rattle.hp_arr.specs.Operations.{deletion, restriction, cone};
 
-use crate::fault::{ArrFault, MAX_DIM};
+use crate::fault::ArrFault;
 use crate::fault_search::find_fault;
 use crate::point_search::next_coordinate;
 use crate::restriction::restricted_forms;
-use crate::rows::{cone_forms, copies, dot, lists_of};
-use hp_algebra::{FiniteField, List, NoMem};
+use crate::rows::{cone_forms, copies, lists_of};
+use hp_algebra::{FiniteField, List, NoMem, form_value};
 use std::alloc::Global;
 use std::marker::Model;
 
@@ -41,7 +42,7 @@ impl<K: FiniteField> Arr<K> {
     /// may come in place of any answer.
     pub fn new(alloc: Global, l: u32, rows: Vec<Vec<K>>) -> Result<Arr<K>, ArrFault>
         requires low { 1 ≤ l }
-        requires high { l ≤ MAX_DIM }
+        requires high { l ≤ max_dim }
         requires widths { All (λ row. length row.items ≡ l) rows.items }
         requires count { length rows.items < 2 ^ 32 - 1 }
         ensures ok { IfOk result (λ a. a ≡ record { dim = l; forms = map (λ row. row.items) rows.items }) }
@@ -53,24 +54,34 @@ impl<K: FiniteField> Arr<K> {
         ensures fault { let forms = map (λ row. row.items) rows.items in
             IfErr result (λ e. (e ≡ ArrFault.Memory) ⊎ (form_fault K.ring K.numbers forms ≡ Some e)) }
     {
-        Arr::of_lists(l, lists_of(alloc, rows)?)
+        Arr::of_lists(alloc, l, lists_of(alloc, rows)?)
     }
 
-    /// The same of lists. Takes no memory.
-    fn of_lists(l: u32, forms: Vec<List<K>>) -> Result<Arr<K>, ArrFault>
+    /// The same of lists.
+    fn of_lists(alloc: Global, l: u32, forms: Vec<List<K>>) -> Result<Arr<K>, ArrFault>
         requires low { 1 ≤ l }
-        requires high { l ≤ MAX_DIM }
+        requires high { l ≤ max_dim }
         requires widths { All (λ form. length form ≡ l) forms.items }
         requires count { length forms.items < 2 ^ 32 }
         ensures ok { IfOk result (λ a. a ≡ record { dim = l; forms = forms.items }) }
         ensures lawful { IfOk result (IsArrangement K.ring K.numbers) }
         ensures faultless { OnOk result (form_fault K.ring K.numbers forms.items ≡ None) }
-        ensures fault { IfErr result (λ e. form_fault K.ring K.numbers forms.items ≡ Some e) }
+        ensures fault { IfErr result (λ e. (e ≡ ArrFault.Memory) ⊎ (form_fault K.ring K.numbers forms.items ≡ Some e)) }
     {
-        if let Some(fault) = find_fault(&forms) {
+        if let Some(fault) = find_fault(alloc, &forms)? {
             return Err(fault);
         }
-        Ok(Arr { dim: l, forms })
+        Ok(Arr::of_lawful(l, forms))
+    }
+
+    /// The arrangement in `l` variables of these forms, which are known to be lawful. It looks for no fault and takes
+    /// no memory.
+    pub fn of_lawful(l: u32, forms: Vec<List<K>>) -> Arr<K>
+        requires { IsArrangement K.ring K.numbers (record { dim = l; forms = forms.items }) }
+        ensures value { result ≡ record { dim = l; forms = forms.items } }
+        ensures lawful { IsArrangement K.ring K.numbers result }
+    {
+        Arr { dim: l, forms }
     }
 
     /// The dimension.
@@ -115,7 +126,7 @@ impl<K: FiniteField> Arr<K> {
         ensures value { result ≡ value K.ring self.now i point.now }
         ensures answer { K.ring.IsValue result }
     {
-        dot(self.form(i), point)
+        form_value(self.form(i), point)
     }
 
     /// The arrangement without form `i`, with `i` from 1.
@@ -129,10 +140,7 @@ impl<K: FiniteField> Arr<K> {
     {
         let mut forms = copies(alloc, &self.forms)?;
         forms.remove(i as usize - 1);
-        Ok(Arr {
-            dim: self.dim,
-            forms,
-        })
+        Ok(Arr::of_lawful(self.dim(), forms))
     }
 
     /// The restriction to hyperplane `i`, with `i` from 1: the other hyperplanes cut with it. Form `i` is solved for its
@@ -150,7 +158,7 @@ impl<K: FiniteField> Arr<K> {
         let dim = self.dim() - 1;
         let others = self.delete(alloc, i)?;
         let forms = restricted_forms(alloc, self.form(i), &others.forms)?;
-        Ok(Arr { dim, forms })
+        Ok(Arr::of_lawful(dim, forms))
     }
 
     /// The cone over the affine hyperplanes of these rows, which each have `l` coefficients and the constant: the
@@ -158,7 +166,7 @@ impl<K: FiniteField> Arr<K> {
     ///
     /// Errors: those of `new` for these forms.
     pub fn cone(alloc: Global, l: u32, rows: Vec<Vec<K>>) -> Result<Arr<K>, ArrFault>
-        requires high { l < MAX_DIM }
+        requires high { l < max_dim }
         requires widths { All (λ row. length row.items ≡ l + 1) rows.items }
         requires count { length rows.items < 2 ^ 32 - 1 }
         ensures ok { IfOk result (λ a. a ≡ cone K.ring l (map (λ row. row.items) rows.items)) }
@@ -170,14 +178,17 @@ impl<K: FiniteField> Arr<K> {
         ensures fault { let forms = (cone K.ring l (map (λ row. row.items) rows.items)).forms in
             IfErr result (λ e. (e ≡ ArrFault.Memory) ⊎ (form_fault K.ring K.numbers forms ≡ Some e)) }
     {
-        Arr::of_lists(l + 1, cone_forms(alloc, l, rows)?)
+        Arr::of_lists(alloc, l + 1, cone_forms(alloc, l, rows)?)
     }
 
     /// The lexicographically least point that lies in no hyperplane, where values go by their places.
     ///
-    /// Coordinate by coordinate, with at most n + 1 trials for each.
+    /// Coordinate by coordinate, with at most n + 1 trials for each. There is such a point, whether or not memory is out.
+    ///
+    /// Errors: `NoMem` where memory is out.
     pub fn least_point_off(&self, alloc: Global) -> Result<Vec<K>, NoMem>
-        ensures { IfOk result (λ x. IsLeastPointOff K.ring K.numbers self.now x.items) }
+        ensures least { IfOk result (λ x. IsLeastPointOff K.ring K.numbers self.now x.items) }
+        ensures exists { HasLeastPointOff K.ring K.numbers self.now }
     {
         let mut point = Vec::new(alloc);
         for _ in 0..self.dim {

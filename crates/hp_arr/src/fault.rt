@@ -12,6 +12,11 @@ pub const MAX_DIM: u32 = 8;
 /// The greatest number of its forms.
 pub const MAX_FORMS: u32 = 60;
 
+// The definitions name these numbers too, as `max_dim` and `max_forms`.
+const _: () = prove!(MAX_DIM == 8);
+
+const _: () = prove!(MAX_FORMS == 60);
+
 /// What is wrong with a list of forms, whose numbers count from 1.
 #[derive(Clone, Copy, Debug, PartialEq, Eq, Error)]
 pub enum ArrFault {

@@ -5,11 +5,10 @@
 mod arrangement;
 mod fault;
 mod fault_search;
+mod normal;
 mod point_search;
 mod restriction;
 mod rows;
-#[cfg(test)]
-mod tests;
 
 pub use arrangement::Arr;
 pub use fault::{ArrFault, MAX_DIM, MAX_FORMS};

@@ -4,11 +4,11 @@
 //! where no beginning of it closes a form, and points are never searched.
 
 ghost use Rattle.std.specs.Prelude.{◌↔◌, ◌≤◌, ◌<◌, IsTrue, All, Any, MatchBool, length, [], ◌∷◌, ◌++◌};
+ghost use Rattle.hp_arr.specs.Arrangement.{max_forms};
 ghost use Rattle.hp_arr.specs.PointSearch.{IsClosed, NoneClosed, HasRoom, IsNext};
 
-use crate::fault::MAX_FORMS;
-use crate::rows::{dot, is_zero};
-use hp_algebra::{Field, FiniteField, List};
+use crate::rows::is_zero;
+use hp_algebra::{Field, FiniteField, List, form_value};
 
 /// The next coordinate behind the prefix: the least value that closes no form.
 ///
@@ -16,7 +16,7 @@ use hp_algebra::{Field, FiniteField, List};
 pub fn next_coordinate<K: FiniteField>(forms: &[List<K>], prefix: &[K]) -> K
     requires room { HasRoom K.ring prefix.now forms.now }
     requires none_closed { NoneClosed K.ring prefix.now forms.now }
-    requires count { length forms.now ≤ MAX_FORMS }
+    requires count { length forms.now ≤ max_forms }
     requires few { length forms.now < K.ORDER }
     ensures { IsNext K.ring K.numbers prefix.now forms.now result }
 {
@@ -50,5 +50,5 @@ fn closes<K: Field>(form: &[K], prefix: &[K], v: K) -> bool
     ensures { IsTrue result ↔ IsClosed K.ring (prefix.now ++ v ∷ []) form.now }
 {
     let k = prefix.len();
-    is_zero(&form[k + 1..]) && dot(form, prefix).plus(form[k].times(v)).is_nil()
+    is_zero(&form[k + 1..]) && form_value(form, prefix).plus(form[k].times(v)).is_nil()
 }

@@ -1,11 +1,11 @@
 //! The forms of a restriction: the other forms in the coordinates of one hyperplane.
 
-ghost use Rattle.std.specs.Prelude.{◌≡◌, ◌+◌, ◌<◌, if◌then◌else◌, IfOk, IsFalse, All, length, map, List, [], ◌∷◌, ◌++◌};
-ghost use Rattle.hp_algebra.specs.Lists.{list_any};
-ghost use Rattle.hp_arr.specs.Arrangement.{is_zero_row, scale, IsRow, IsMultiple};
-ghost use Rattle.hp_arr.specs.FormFaults.{row_minus, same_row};
-ghost use Rattle.hp_arr.specs.Operations.{entry, first_copies, first_place, last_place, normalised, restricted_form};
+ghost use Rattle.std.specs.Prelude.{◌≡◌, ◌<◌, if◌then◌else◌, IfOk, IsFalse, All, length, map, List, [], ◌∷◌, ◌++◌};
+ghost use Rattle.hp_lists.specs.Lists.{list_any};
+ghost use Rattle.hp_algebra.specs.Rows.{IsRow, IsMultiple, entry, is_zero_row, row_minus, row_scale, same_row};
+ghost use Rattle.hp_arr.specs.Operations.{first_copies, last_place, normalised, restricted_form};
 
+use crate::normal::normalised;
 use hp_algebra::{Field, List, NoMem};
 use std::alloc::Global;
 
@@ -24,7 +24,7 @@ pub fn restricted_forms<K: Field>(
     requires rows { All (IsRow K.ring (length a.now)) others.now }
     requires apart { All (λ b. ¬ (IsMultiple K.ring b a.now)) others.now }
     ensures { let restricted = λ (b : List K). normalised K.ring K.inverse (restricted_form K.ring K.inverse a.now b) in
-        IfOk result (λ kept. kept.items ≡ first_copies K.ring [] (map restricted others.now)) }
+        IfOk result (λ kept. kept.items ≡ first_copies K.ring (map restricted others.now)) }
 {
     let (place, inverse) = last_entry(a);
     let mut kept = Vec::new(alloc);
@@ -40,7 +40,7 @@ fn last_entry<K: Field>(row: &[K]) -> (usize, K)
     requires values { All K.ring.IsValue row.now }
     requires nonzero { IsFalse (is_zero_row K.ring row.now) }
     ensures within { result.0 < length row.now }
-    ensures place { result.0 + 1 ≡ last_place K.ring row.now }
+    ensures place { result.0 ≡ last_place K.ring row.now }
     ensures inverse { result.1 ≡ K.inverse (entry K.ring row.now (last_place K.ring row.now)) }
 {
     for k in (0..row.len()).rev() {
@@ -61,7 +61,7 @@ fn restricted_form<K: Field>(
 ) -> Result<Vec<K>, NoMem>
     requires widths { length b.now ≡ length a.now }
     requires within { place < length a.now }
-    requires place { place + 1 ≡ last_place K.ring a.now }
+    requires place { place ≡ last_place K.ring a.now }
     requires inverse { inverse ≡ K.inverse (entry K.ring a.now (last_place K.ring a.now)) }
     ensures { IfOk result (λ row. row.items ≡ restricted_form K.ring K.inverse a.now b.now) }
 {
@@ -73,47 +73,13 @@ fn restricted_form<K: Field>(
 /// The row b less c times the row a.
 fn minus_multiple<K: Field>(alloc: Global, b: &[K], c: K, a: &[K]) -> Result<Vec<K>, NoMem>
     requires { length b.now ≡ length a.now }
-    ensures { IfOk result (λ row. row.items ≡ row_minus K.ring b.now (scale K.ring c a.now)) }
+    ensures { IfOk result (λ row. row.items ≡ row_minus K.ring b.now (row_scale K.ring c a.now)) }
 {
     let mut row = Vec::new(alloc);
     for k in 0..b.len() {
         row.push(b[k].minus(c.times(a[k])))?;
     }
     Ok(row)
-}
-
-/// The row divided by its first entry that is not zero.
-fn normalised<K: Field>(row: Vec<K>) -> Vec<K>
-    requires values { All K.ring.IsValue row.items }
-    requires nonzero { IsFalse (is_zero_row K.ring row.items) }
-    ensures { result.items ≡ normalised K.ring K.inverse row.items }
-{
-    let inverse = first_inverse(&row);
-    scaled(row, inverse)
-}
-
-/// The inverse of the first entry that is not zero.
-fn first_inverse<K: Field>(row: &[K]) -> K
-    requires values { All K.ring.IsValue row.now }
-    requires nonzero { IsFalse (is_zero_row K.ring row.now) }
-    ensures { result ≡ K.inverse (entry K.ring row.now (first_place K.ring row.now)) }
-{
-    for k in 0..row.len() {
-        if let Some(inverse) = row[k].inv() {
-            return inverse;
-        }
-    }
-    unreachable!()
-}
-
-/// The row times c.
-fn scaled<K: Field>(mut row: Vec<K>, c: K) -> Vec<K>
-    ensures { result.items ≡ scale K.ring c row.items }
-{
-    for k in 0..row.len() {
-        row[k] = c.times(row[k]);
-    }
-    row
 }
 
 /// Puts the row behind the rows, unless it is one of them.
@@ -134,11 +100,14 @@ fn contains_row<K: Field>(rows: &[List<K>], row: &[K]) -> bool
     rows.iter().any(|other| is_same(row, other.as_slice()))
 }
 
-/// Whether the rows have the same entries, at the places that both have.
+/// Whether the rows have the same entries, and as many.
 fn is_same<K: Field>(a: &[K], b: &[K]) -> bool
     ensures { result ≡ same_row K.ring a.now b.now }
 {
-    for k in 0..a.len().min(b.len()) {
+    if a.len() != b.len() {
+        return false;
+    }
+    for k in 0..a.len() {
         if !a[k].minus(b[k]).is_nil() {
             return false;
         }

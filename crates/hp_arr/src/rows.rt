@@ -1,12 +1,11 @@
-//! Rows of values: the test for zero, multiples, and the value of a form at a point.
+//! Lists of rows, and the test of a row for zero.
 
-ghost use Rattle.std.specs.Prelude.{◌≡◌, ◌==◌, if◌then◌else◌, ◌↔◌, ◌≤◌, ◌<◌, IfOk, IsTrue, IsFalse, All, length, map};
-ghost use Rattle.hp_algebra.specs.Ring.{dot_of};
-ghost use Rattle.hp_arr.specs.Arrangement.{is_zero_row, scale, IsMultiple};
-ghost use Rattle.hp_arr.specs.Operations.{coordinate, cone};
+ghost use Rattle.std.specs.Prelude.{◌≡◌, ◌<◌, IfOk, All, map};
+ghost use Rattle.hp_algebra.specs.Rows.{is_zero_row};
+ghost use Rattle.hp_arr.specs.Arrangement.{max_dim};
+ghost use Rattle.hp_arr.specs.Operations.{cone};
 
-use crate::fault::MAX_DIM;
-use hp_algebra::{Field, List, NoMem};
+use hp_algebra::{Field, List, NoMem, unit_row};
 use std::alloc::Global;
 
 /// The rows as lists.
@@ -37,31 +36,13 @@ fn copy_of<T: Copy>(alloc: Global, row: &[T]) -> Result<Vec<T>, NoMem>
 /// The forms of the cone over these rows, which each have `l` coefficients and the constant: the rows, and behind them
 /// the last coordinate.
 pub fn cone_forms<K: Field>(alloc: Global, l: u32, rows: Vec<Vec<K>>) -> Result<Vec<List<K>>, NoMem>
-    requires { l < MAX_DIM }
+    requires { l < max_dim }
     ensures { IfOk result (λ forms. forms.items ≡ (cone K.ring l (map (λ row. row.items) rows.items)).forms) }
 {
+    let width = l as usize + 1;
     let mut forms = lists_of(alloc, rows)?;
-    forms.push(List::of(last_coordinate(alloc, l + 1)?))?;
+    forms.push(List::of(unit_row(alloc, width, width)?))?;
     Ok(forms)
-}
-
-/// The last coordinate in l variables.
-fn last_coordinate<K: Field>(alloc: Global, l: u32) -> Result<Vec<K>, NoMem>
-    requires { l ≤ MAX_DIM }
-    ensures { IfOk result (λ row. row.items ≡ coordinate K.ring l l) }
-{
-    let mut row = Vec::new(alloc);
-    for k in 0..l {
-        row.push(one_at(k + 1, l))?;
-    }
-    Ok(row)
-}
-
-/// One where the places are the same, and else zero.
-fn one_at<K: Field>(k: u32, l: u32) -> K
-    ensures { result ≡ (if k == l then K.ring.one else K.ring.zero) }
-{
-    if k == l { K::unit() } else { K::nil() }
 }
 
 /// Whether each entry is zero. It looks at all of them, so that each is known to be a value.
@@ -74,45 +55,4 @@ pub fn is_zero<K: Field>(row: &[K]) -> bool
         zero &= entry.is_nil();
     }
     zero
-}
-
-/// The value of the form at the point, which may have fewer coordinates than the form has coefficients.
-pub fn dot<K: Field>(form: &[K], point: &[K]) -> K
-    requires { length point.now ≤ length form.now }
-    ensures point { All K.ring.IsValue point.now }
-    ensures value { result ≡ dot_of K.ring form.now point.now }
-    ensures answer { K.ring.IsValue result }
-{
-    let mut value = K::nil();
-    for k in (0..point.len()).rev() {
-        value = form[k].times(point[k]).plus(value);
-    }
-    value
-}
-
-/// Whether a is c times b.
-fn is_scaled<K: Field>(a: &[K], c: K, b: &[K]) -> bool
-    requires { length a.now ≡ length b.now }
-    ensures { IsTrue result ↔ (a.now ≡ scale K.ring c b.now) }
-{
-    for k in 0..b.len() {
-        if !a[k].equal(&c.times(b[k])) {
-            return false;
-        }
-    }
-    true
-}
-
-/// Whether a is a multiple of b, which is not zero. Any entry of b that is not zero gives the only factor possible.
-pub fn is_multiple<K: Field>(a: &[K], b: &[K]) -> bool
-    requires lengths { length a.now ≡ length b.now }
-    requires nonzero { IsFalse (is_zero_row K.ring b.now) }
-    ensures { IsTrue result ↔ IsMultiple K.ring a.now b.now }
-{
-    for k in 0..b.len() {
-        if let Some(inverse) = b[k].inv() {
-            return is_scaled(a, a[k].times(inverse), b);
-        }
-    }
-    unreachable!()
 }

@@ -5,17 +5,15 @@ use Rattle.std.proofs.lemmas.Bool.{or_parts, and_parts, and_from, eqb-false, not
 use Rattle.std.proofs.lemmas.List.{get_or_default, get_or-take, length-take-le}
 use Rattle.std.proofs.lemmas.List.Folds.{list_any_at}
 use Rattle.std.proofs.lemmas.Simd.{map-map}
-use Rattle.hp_algebra.specs.Lists.{list_any}
+use Rattle.hp_lists.specs.Lists.{list_any, Ordered}
 use Rattle.hp_algebra.specs.Ring.{RingOf, IsRing}
-use Rattle.hp_algebra.proofs.Members.{map-Contains}
-use Rattle.hp_algebra.proofs.Rising.{Ordered, Ordered-from_pairs}
-use Rattle.hp_arr.proofs.Firsts.{find-none_at}
+use Rattle.hp_lists.proofs.Members.{map-Contains}
+use Rattle.hp_lists.proofs.Ordered.{Ordered-from_pairs, Ordered-map}
+use Rattle.hp_lists.proofs.Firsts.{find-none_at}
 use Rattle.hp_build.specs.Families.{difference, graphic}
-use Rattle.hp_build.specs.Faults.{IsProper}
 use Rattle.hp_build.specs.Graphs.{same_edge, is_bad_edge, bad_edge}
 use Rattle.hp_build.proofs.FamilyForms.{IsPair, Differ, simple-differences}
-use Rattle.hp_build.proofs.Orders.{Ordered-map}
-use Rattle.hp_build.proofs.Simple.{proper-from_simple}
+use Rattle.hp_build.proofs.Simple.{IsSimple}
 
 -- the ends of an edge, the lesser first
 abbrev pub rising : ℕ × ℕ → ℕ × ℕ
@@ -69,9 +67,10 @@ module _ (v : ℕ) (edges : List (ℕ × ℕ)) (none : bad_edge v edges ≡ None
   differ-ordered : Ordered Differ (map rising edges)
   differ-ordered = Ordered-map Differ rising edges (Ordered-from_pairs (λ d e. Differ (rising d) (rising e)) edges differ)
 
-pub graphic-proper : {K : Type 0} {ring : RingOf K} → IsRing ring → ring.one ≢ ring.zero → (v : ℕ) (edges : List (ℕ × ℕ)) (found : Option ℕ) → found ≡ bad_edge v edges → found ≡ None → IsProper ring v (graphic ring v edges).forms
-graphic-proper {K = K} {ring = ring} laws one_zero v edges found search nothing =
+pub graphic-simple : {K : Type 0} {ring : RingOf K} → IsRing ring → ring.one ≢ ring.zero → (v : ℕ) (edges : List (ℕ × ℕ)) (found : Option ℕ)
+    → found ≡ bad_edge v edges → found ≡ None → IsSimple ring v (graphic ring v edges).forms
+graphic-simple {K = K} {ring = ring} laws one_zero v edges found search nothing =
     let none : bad_edge v edges ≡ None = sym search ∙ nothing in
     let form : ℕ × ℕ → List K = λ e. difference ring v e.0 e.1 in
-    subst (IsProper ring v) (map-map form rising edges)
-    (proper-from_simple v (map form (map rising edges)) (simple-differences laws one_zero v (map rising edges) (within v edges none) (differ-ordered v edges none)))
+    subst (IsSimple ring v) (map-map form rising edges)
+    (simple-differences laws one_zero v (map rising edges) (within v edges none) (differ-ordered v edges none))

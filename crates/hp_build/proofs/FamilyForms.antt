@@ -1,21 +1,20 @@
 -- The forms of each family are not zero, and no two are proportional.
-use Rattle.std.proofs.Common.{◌≡◌, ◌≢◌, ℕ, ◌+◌, ◌*◌, ◌<◌, ◌≤◌, false, List, [], ◌∷◌, ◌++◌, map, flat_map, Contains, length, length-append, refl, sym, ap, ◌∙◌, subst, inl, inr, mul-le-mul, lit≤, arith}
+use Rattle.std.proofs.Common.{◌≡◌, ◌≢◌, ℕ, ◌+◌, ◌*◌, ◌^◌, ◌<◌, ◌≤◌, false, List, [], ◌∷◌, map, flat_map, Contains, length, length-append, refl, sym, ap, ◌∙◌, subst, inl, inr, mul-le-mul, lit≤, arith}
 use Rattle.std.proofs.lemmas.List.{length-map}
 use Rattle.std.proofs.lemmas.List.FromFn.{length-range_with_len}
 use Rattle.hp_algebra.specs.Ring.{RingOf, Numbering, IsRing, IsNumbering, multiple_of_one}
-use Rattle.hp_algebra.specs.Lists.{one_to}
-use Rattle.hp_algebra.proofs.Members.{Contains-cases, Contains-none, map-Contains, flat_map-Contains}
+use Rattle.hp_lists.specs.Lists.{one_to, Ordered}
+use Rattle.hp_lists.proofs.Members.{Contains-cases, Contains-none, map-Contains, flat_map-Contains}
 use Rattle.hp_algebra.proofs.Rings.{zero_add}
-use Rattle.hp_algebra.proofs.Rising.{Ordered, range_members, range_rises}
-use Rattle.hp_arr.specs.Arrangement.{IsRow, IsMultiple, is_zero_row}
-use Rattle.hp_arr.specs.Operations.{coordinate}
+use Rattle.hp_lists.proofs.Ranges.{range_members, range_rises}
+use Rattle.hp_arr.specs.Arrangement.{max_dim}
+use Rattle.hp_algebra.specs.Rows.{IsRow, IsMultiple, is_zero_row, unit_row}
 use Rattle.hp_build.specs.Families.{pairs, two_terms, difference, sum_form, type_a, type_b, type_d, boolean}
-use Rattle.hp_build.specs.Faults.{IsProper}
-use Rattle.hp_build.proofs.Entries.{two_terms-row, coordinate-two_terms, sum_form-two_terms}
+use Rattle.hp_build.proofs.Entries.{two_terms-row, coordinate-two_terms}
 use Rattle.hp_build.proofs.ListedPairs.{IsBefore, pairs-members, pairs-ordered, length-pairs_most, length-flat_map_most}
-use Rattle.hp_build.proofs.Orders.{Ordered-weaker, Ordered-map, Ordered-flat_map}
+use Rattle.hp_lists.proofs.Ordered.{Ordered-weaker, Ordered-map, Ordered-flat_map}
 use Rattle.hp_build.proofs.Proportional.{IsLed, led-nonzero, led-apart}
-use Rattle.hp_build.proofs.Simple.{IsSimple, simple-append, proper-from_simple}
+use Rattle.hp_build.proofs.Simple.{IsSimple, simple-append}
 
 -- a pair i < j of 1 to l
 abbrev pub IsPair : ℕ → ℕ × ℕ → Type 0
@@ -99,18 +98,18 @@ module _ {K : Type 0} {ring : RingOf K} (laws : IsRing ring) (one_zero : ring.on
       differ))
 
   -- x_1 to x_l
-  pub simple-coordinates : (l : ℕ) → IsSimple ring l (map (coordinate ring l) (one_to l))
+  pub simple-coordinates : (l : ℕ) → IsSimple ring l (map (unit_row ring l) (one_to l))
   simple-coordinates l =
-      simple-terms l (map (coordinate ring l) (one_to l))
-      (λ a c. (let found = map-Contains (coordinate ring l) (one_to l) a c in
+      simple-terms l (map (unit_row ring l) (one_to l))
+      (λ a c. (let found = map-Contains (unit_row ring l) (one_to l) a c in
       let within = range_members found.0 1 l found.1 in
       (found.0, found.0, ring.one, coordinate-led l found.0 within.0 (omega (arith, within.1)), sym found.2 ∙ coordinate-two_terms ring l found.0)))
-      (Ordered-map (λ a b. ¬ (IsMultiple ring a b)) (coordinate ring l) (one_to l)
-      (Ordered-weaker (λ i j. i < j) (λ i j. ¬ (IsMultiple ring (coordinate ring l i) (coordinate ring l j))) (one_to l)
+      (Ordered-map (λ a b. ¬ (IsMultiple ring a b)) (unit_row ring l) (one_to l)
+      (Ordered-weaker (λ i j. i < j) (λ i j. ¬ (IsMultiple ring (unit_row ring l i) (unit_row ring l j))) (one_to l)
       (λ i j at_i at_j below. (
       let in_i = range_members i 1 l at_i in
       let in_j = range_members j 1 l at_j in
-      terms-apart l i i j j ring.one ring.one (coordinate ring l i) (coordinate ring l j) (coordinate-two_terms ring l i) (coordinate-two_terms ring l j)
+      terms-apart l i i j j ring.one ring.one (unit_row ring l i) (unit_row ring l j) (coordinate-two_terms ring l i) (coordinate-two_terms ring l j)
       (coordinate-led l i in_i.0 (omega (arith, in_i.1))) (coordinate-led l j in_j.0 (omega (arith, in_j.1))) (λ first second same. omega (arith, first, below))))
       (range_rises 1 l)))
 
@@ -128,7 +127,7 @@ module _ {K : Type 0} {ring : RingOf K} (laws : IsRing ring) (one_zero : ring.on
         elim (Contains-cases (difference ring l e.0 e.1) (sum_form ring l e.0 e.1 ∷ []) a c) [
           | inl first ↦ (ring.neg ring.one, difference-led l e p, sym first)
           | inr later ↦ elim (Contains-cases (sum_form ring l e.0 e.1) [] a later) [
-            | inl second ↦ (ring.one, sum-led l e p, sym second ∙ sum_form-two_terms ring l e.0 e.1)
+            | inl second ↦ (ring.one, sum-led l e p, sym second)
             | inr none ↦ absurd (Contains-none a none)
           ]
         ]
@@ -136,7 +135,7 @@ module _ {K : Type 0} {ring : RingOf K} (laws : IsRing ring) (one_zero : ring.on
     signed-ordered : (l : ℕ) (e : ℕ × ℕ) → IsPair l e → Ordered (λ a b. ¬ (IsMultiple ring a b)) (signed l e)
     signed-ordered l e p = (
       λ b c. elim (Contains-cases (sum_form ring l e.0 e.1) [] b c) [
-        | inl second ↦ terms-apart l e.0 e.1 e.0 e.1 (ring.neg ring.one) ring.one (difference ring l e.0 e.1) b refl (sym second ∙ sum_form-two_terms ring l e.0 e.1) (difference-led l e p) (sum-led l e p) (λ first last same. odd (sym same))
+        | inl second ↦ terms-apart l e.0 e.1 e.0 e.1 (ring.neg ring.one) ring.one (difference ring l e.0 e.1) b refl (sym second) (difference-led l e p) (sum-led l e p) (λ first last same. odd (sym same))
         | inr none ↦ absurd (Contains-none b none)
       ],
       ((λ b c. absurd (Contains-none b c)), tt),
@@ -157,10 +156,10 @@ module _ {K : Type 0} {ring : RingOf K} (laws : IsRing ring) (one_zero : ring.on
         terms-apart l d.0 d.1 e.0 e.1 first.0 second.0 a b first.2 second.2 first.1 second.1 (λ x y same. apart x y)))
         (pairs-differ l)))
 
-    -- a coordinate and a form of a pair
-    coordinate-signed : (l : ℕ) (a b : List K) → Contains (map (coordinate ring l) (one_to l)) a → Contains (flat_map (signed l) (pairs l)) b → ¬ (IsMultiple ring a b)
+    -- a unit_row and a form of a pair
+    coordinate-signed : (l : ℕ) (a b : List K) → Contains (map (unit_row ring l) (one_to l)) a → Contains (flat_map (signed l) (pairs l)) b → ¬ (IsMultiple ring a b)
     coordinate-signed l a b in_a in_b =
-        let one = map-Contains (coordinate ring l) (one_to l) a in_a in
+        let one = map-Contains (unit_row ring l) (one_to l) a in_a in
         let within = range_members one.0 1 l one.1 in
         let two = flat_map-Contains (signed l) (pairs l) b in_b in
         let pair = pairs-members l two.0 two.1 in
@@ -168,49 +167,49 @@ module _ {K : Type 0} {ring : RingOf K} (laws : IsRing ring) (one_zero : ring.on
         terms-apart l one.0 one.0 two.0.0 two.0.1 ring.one form.0 a b (sym one.2 ∙ coordinate-two_terms ring l one.0) form.2
         (coordinate-led l one.0 within.0 (omega (arith, within.1))) form.1 (λ first second same. omega (arith, first, second, pair.1))
 
-    pub type_d-proper : (r : ℕ) → IsProper ring r (type_d ring r).forms
-    type_d-proper r = proper-from_simple r (flat_map (signed r) (pairs r)) (simple-signed r)
+    pub type_d-simple : (r : ℕ) → IsSimple ring r (type_d ring r).forms
+    type_d-simple = simple-signed
 
-    pub type_b-proper : (r : ℕ) → IsProper ring r (type_b ring r).forms
-    type_b-proper r =
-        proper-from_simple r (map (coordinate ring r) (one_to r) ++ flat_map (signed r) (pairs r))
-        (simple-append r (map (coordinate ring r) (one_to r)) (flat_map (signed r) (pairs r)) (simple-coordinates r) (simple-signed r) (coordinate-signed r))
+    pub type_b-simple : (r : ℕ) → IsSimple ring r (type_b ring r).forms
+    type_b-simple r =
+        simple-append r (boolean ring r).forms (type_d ring r).forms (simple-coordinates r) (simple-signed r) (coordinate-signed r)
 
-  pub type_a-proper : (r : ℕ) → IsProper ring (r + 1) (type_a ring r).forms
-  type_a-proper r =
-      let form : ℕ × ℕ → List K = λ e. difference ring (r + 1) e.0 e.1 in
-      proper-from_simple (r + 1) (map form (pairs (r + 1))) (simple-differences (r + 1) (pairs (r + 1)) (pairs-members (r + 1)) (pairs-differ (r + 1)))
+  pub type_a-simple : (r : ℕ) → IsSimple ring (r + 1) (type_a ring r).forms
+  type_a-simple r = simple-differences (r + 1) (pairs (r + 1)) (pairs-members (r + 1)) (pairs-differ (r + 1))
 
-  pub boolean-proper : (r : ℕ) → IsProper ring r (boolean ring r).forms
-  boolean-proper r = proper-from_simple r (map (coordinate ring r) (one_to r)) (simple-coordinates r)
+  pub boolean-simple : (r : ℕ) → IsSimple ring r (boolean ring r).forms
+  boolean-simple = simple-coordinates
 
--- there are few forms in at most 8 variables
-pairs-few : (l : ℕ) → l ≤ 8 → length (pairs l) ≤ 64
+-- there are few forms in few variables
+pairs-few : (l : ℕ) → l ≤ max_dim → length (pairs l) ≤ max_dim * max_dim
 pairs-few l small =
     let count = length-pairs_most l in
-    let most : l * l ≤ 8 * 8 = mul-le-mul small small in
+    let most : l * l ≤ max_dim * max_dim = mul-le-mul small small in
     omega (arith, count, most)
 
 module _ {K : Type 0} (ring : RingOf K) where
-  pub type_a-few : (r : ℕ) → r < 8 → length (type_a ring r).forms ≤ 200
-  type_a-few r small =
+  pub few_type_a : (r : ℕ) → r < max_dim → length (type_a ring r).forms < 2 ^ 32
+  few_type_a r small =
       let form : ℕ × ℕ → List K = λ e. difference ring (r + 1) e.0 e.1 in
       omega (arith, length-map (pairs (r + 1)) form, pairs-few (r + 1) (omega (arith, small)))
 
-  pub boolean-few : (r : ℕ) → r ≤ 8 → length (boolean ring r).forms ≤ 8
-  boolean-few r small = omega (arith, small, length-map (one_to r) (coordinate ring r), length-range_with_len 1 r)
+  boolean-length : (r : ℕ) → length (boolean ring r).forms ≡ r
+  boolean-length r = length-map (one_to r) (unit_row ring r) ∙ length-range_with_len 1 r
 
-  pub type_d-few : (r : ℕ) → r ≤ 8 → length (type_d ring r).forms ≤ 128
-  type_d-few r small =
+  pub few_boolean : (r : ℕ) → r ≤ max_dim → length (boolean ring r).forms < 2 ^ 32
+  few_boolean r small = omega (arith, small, boolean-length r)
+
+  type_d-most : (r : ℕ) → r ≤ max_dim → length (type_d ring r).forms ≤ max_dim * max_dim * 2
+  type_d-most r small =
       let both : ℕ × ℕ → List (List K) = λ e. difference ring r e.0 e.1 ∷ sum_form ring r e.0 e.1 ∷ [] in
       omega (arith, length-flat_map_most both 2 (pairs r) (λ e. lit≤ tt), pairs-few r small)
 
-  pub type_b-few : (r : ℕ) → r ≤ 8 → length (type_b ring r).forms ≤ 200
-  type_b-few r small = omega (arith, length-append (boolean ring r).forms (type_d ring r).forms, boolean-few r small, type_d-few r small)
+  pub few_type_d : (r : ℕ) → r ≤ max_dim → length (type_d ring r).forms < 2 ^ 32
+  few_type_d r small = omega (arith, type_d-most r small)
 
--- so there are few rows of these forms
-pub rows-few : {X Y : Type 0} (items : Y → X) (rows : List Y) (forms : List X) (n : ℕ) → map items rows ≡ forms → length forms ≤ n → length rows ≤ n
-rows-few items rows forms n e few = subst (λ m. m ≤ n) (sym (ap length e) ∙ length-map rows items) few
+  pub few_type_b : (r : ℕ) → r ≤ max_dim → length (type_b ring r).forms < 2 ^ 32
+  few_type_b r small =
+      omega (arith, small, length-append (boolean ring r).forms (type_d ring r).forms, boolean-length r, type_d-most r small)
 
 -- in a field of three elements or more 1 and -1 differ
 pub one-minus_one : {K : Type 0} {ring : RingOf K} {numbers : Numbering K} → IsRing ring → IsNumbering ring numbers → 3 ≤ numbers.order → ring.one ≢ ring.neg ring.one

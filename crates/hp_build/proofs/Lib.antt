@@ -2,8 +2,6 @@ pub mod EdgeForms
 pub mod Entries
 pub mod FamilyForms
 pub mod ListedPairs
-pub mod Orders
 pub mod Proportional
-pub mod Ranges
 pub mod Simple
 pub mod SmallFields

@@ -1,13 +1,14 @@
 -- The pairs of the numbers from 1 to l.
-use Rattle.std.proofs.Common.{◌≡◌, ◌⊎◌, ℕ, suc, ◌+◌, ◌*◌, ◌<◌, ◌≤◌, nat_lt, List, [], ◌∷◌, ◌++◌, map, filter, flat_map, Contains, length, length-append, ap, inl, inr, subst, refl, Bool, true, false, cond, arith}
+use Rattle.std.proofs.Common.{◌≡◌, ◌⊎◌, ℕ, suc, ◌+◌, ◌*◌, ◌<◌, ◌≤◌, nat_lt, List, [], ◌∷◌, ◌++◌, map, filter, flat_map, Contains, length, length-append, ap, inl, inr, subst, refl, arith}
 use Rattle.std.proofs.lemmas.Bool.{ltb-true}
 use Rattle.std.proofs.lemmas.List.{length-map}
 use Rattle.std.proofs.lemmas.List.FromFn.{length-range_with_len}
-use Rattle.hp_algebra.specs.Lists.{one_to}
-use Rattle.hp_algebra.proofs.Members.{map-Contains, flat_map-Contains, filter-Contains}
-use Rattle.hp_algebra.proofs.Rising.{Ordered, Ordered-filter, range_members, range_rises}
+use Rattle.std.proofs.lemmas.List.Sums.{length-filter, count_by-le-length}
+use Rattle.hp_lists.specs.Lists.{one_to, Ordered}
+use Rattle.hp_lists.proofs.Members.{map-Contains, flat_map-Contains, filter-Contains}
+use Rattle.hp_lists.proofs.Ordered.{Ordered-filter, Ordered-weaker, Ordered-map, Ordered-flat_map}
+use Rattle.hp_lists.proofs.Ranges.{range_members, range_rises}
 use Rattle.hp_build.specs.Families.{pairs}
-use Rattle.hp_build.proofs.Orders.{Ordered-weaker, Ordered-map, Ordered-flat_map}
 
 -- the pairs with first number i
 abbrev pub pairs_from : ℕ → ℕ → List (ℕ × ℕ)
@@ -56,20 +57,13 @@ length-flat_map_most g m (x ∷ xs) each =
     let more : suc (length xs) * m ≡ m + length xs * m = omega arith in
     omega (arith, whole, here, later, more)
 
-length-filter_most : {X : Type 0} (p : X → Bool) (xs : List X) → length (filter p xs) ≤ length xs
-length-filter_most p [] = omega arith
-length-filter_most p (x ∷ xs) = step (p x) (length-filter_most p xs)
-  where
-    step : (b : Bool) → length (filter p xs) ≤ length xs → length (cond b (x ∷ filter p xs) (filter p xs)) ≤ suc (length xs)
-    step true h = omega (arith, h)
-    step false h = omega (arith, h)
-
 pub length-pairs_most : (l : ℕ) → length (pairs l) ≤ l * l
 length-pairs_most l =
     let numbers : length (one_to l) ≡ l = length-range_with_len 1 l in
     let each : (i : ℕ) → length (pairs_from l i) ≤ l = λ i. (
-    let kept = length-filter_most (nat_lt i) (one_to l) in
+    let kept = length-filter (nat_lt i) (one_to l) in
+    let most = count_by-le-length (nat_lt i) (one_to l) in
     let Pair : ℕ → ℕ × ℕ = λ j. (i, j) in
     let mapped = length-map (filter (nat_lt i) (one_to l)) Pair in
-    omega (arith, numbers, kept, mapped)) in
+    omega (arith, numbers, kept, most, mapped)) in
     subst (λ n. length (pairs l) ≤ n * l) numbers (length-flat_map_most (pairs_from l) l (one_to l) each)

@@ -1,14 +1,15 @@
 -- Forms x_i and x_i + c x_j are proportional only where they are the same.
-use Rattle.std.proofs.Common.{◌≡◌, ◌≢◌, ℕ, ◌-◌, ◌≤◌, false, Contains, get_or, refl, sym, ap, ◌∙◌, inl, inr, arith}
+use Rattle.std.proofs.Common.{◌≡◌, ◌≢◌, ℕ, ◌-◌, ◌<◌, ◌≤◌, false, Contains, refl, sym, ap, ◌∙◌, inl, inr, arith}
 use Rattle.std.proofs.lemmas.Bool.{cases_eq, cases_order, cases_Bool}
 use Rattle.hp_algebra.specs.Ring.{RingOf, IsRing}
-use Rattle.hp_algebra.specs.Lists.{one_to}
-use Rattle.hp_algebra.proofs.Members.{Contains-map, all-at}
-use Rattle.hp_algebra.proofs.Rising.{members_range}
+use Rattle.hp_lists.specs.Lists.{one_to}
+use Rattle.hp_lists.proofs.Members.{Contains-map, all-at}
+use Rattle.hp_lists.proofs.Ranges.{members_range}
 use Rattle.hp_algebra.proofs.Rings.{mul_zero, zero_mul}
-use Rattle.hp_arr.specs.Arrangement.{IsMultiple, is_zero_row}
+use Rattle.hp_algebra.specs.Rows.{IsMultiple, entry, is_zero_row}
+use Rattle.hp_algebra.proofs.Rows.{entry-scale}
 use Rattle.hp_build.specs.Families.{two_terms}
-use Rattle.hp_build.proofs.Entries.{term, term-first, term-second, term-other, term-value, two_terms-entry, scaled-entry}
+use Rattle.hp_build.proofs.Entries.{term, term-first, term-second, term-other, term-value, two_terms-entry, two_terms-row}
 
 -- x_i + c x_j in l variables, with i below j and c not zero, or x_i, where j is i and c is one
 pub record IsLed {K : Type 0} (ring : RingOf K) (l i j : ℕ) (c : K) : Type 0 where
@@ -100,5 +101,8 @@ module _ {K : Type 0} {ring : RingOf K} (laws : IsRing ring) (one_zero : ring.on
   pub led-apart : (l i j p q : ℕ) (c d : K) → IsLed ring l i j c → IsLed ring l p q d → (i ≡ p → j ≡ q → c ≡ d → ⊥) → ¬ (IsMultiple ring (two_terms ring l i j c) (two_terms ring l p q d))
   led-apart l i j p q c d a b differ (m, v, e) =
       let same : (k : ℕ) → 1 ≤ k → k ≤ l → term ring i j c k ≡ ring.mul m (term ring p q d k) =
-      λ k low high. sym (two_terms-entry ring l i j c ring.zero k low high) ∙ ap (λ r. get_or r (k - 1) ring.zero) e ∙ scaled-entry ring l p q m d ring.zero k low high in
+      λ k low high. (let inside : k - 1 < l = omega arith in
+      sym (two_terms-entry ring l i j c k low high) ∙ ap (λ r. entry ring r (k - 1)) e
+      ∙ entry-scale laws l m (two_terms ring l p q d) (k - 1) inside (two_terms-row laws l p q d b.value)
+      ∙ ap (ring.mul m) (two_terms-entry ring l p q d k low high)) in
       differ (firsts l i j p q c d m a b v same) (seconds l i j p q c d m a b v same) (coefficients l i j p q c d m a b v same)

@@ -1,18 +1,14 @@
--- Rows of one width, none zero and no two proportional, have no fault but that they are too many.
-use Rattle.std.proofs.Common.{◌≡◌, ◌⊎◌, ℕ, ◌-◌, ◌<◌, ◌≤◌, ◌||◌, false, cond, List, map, All, [], ◌∷◌, ◌++◌, length, get_or, Contains, Option, Some, None, refl, sym, ap, ◌∙◌, subst, inl, inr, arith}
-use Rattle.std.proofs.lemmas.Bool.{cases_Bool, le-ltb, lt-leb}
-use Rattle.std.proofs.lemmas.List.{length-map, get_or-map}
+-- Rows of one width, none zero and no two proportional, are the forms of an arrangement, unless they are too many.
+use Rattle.std.proofs.Common.{◌≡◌, ℕ, ◌≤◌, false, List, [], ◌++◌, get_or, Contains, None, sym, subst, inl, inr}
+use Rattle.std.proofs.lemmas.Option.{slice_get_within, get_or_from_slice_get}
 use Rattle.std.proofs.lemmas.List.Elements.{Contains-get_or, Contains-append_cases}
-use Rattle.hp_algebra.specs.Ring.{RingOf, Numbering, IsRing, IsNumbering}
-use Rattle.hp_algebra.specs.Lists.{first_some}
-use Rattle.hp_algebra.proofs.Rising.{Ordered, Ordered-append, pairs_from_Ordered}
-use Rattle.hp_arr.specs.declared.fault.ArrFault.{ArrFault}
-use Rattle.hp_arr.specs.declared.fault.ArrFault.TheVariants.{TooMany, Memory}
-use Rattle.hp_arr.specs.Arrangement.{max_forms, IsRow, IsMultiple, is_zero_row}
-use Rattle.hp_arr.specs.FormFaults.{row, is_multiple, zero_fault, repeated_fault, too_many_fault, form_fault}
-use Rattle.hp_arr.proofs.FaultFacts.{zero_fault-none, earlier_multiple-none, repeated_fault-none}
-use Rattle.hp_arr.proofs.Multiples.{is_multiple-exact}
-use Rattle.hp_build.specs.Faults.{IsProper}
+use Rattle.hp_algebra.specs.Ring.{RingOf, Numbering, IsField, IsNumbering}
+use Rattle.hp_lists.specs.Lists.{Ordered}
+use Rattle.hp_algebra.specs.Rows.{IsRow, IsMultiple, is_zero_row}
+use Rattle.hp_lists.proofs.Ordered.{Ordered-append, Ordered-at}
+use Rattle.hp_arr.specs.Arrangement.{IsArrangement, max_dim}
+use Rattle.hp_arr.specs.FormFaults.{too_many_fault}
+use Rattle.hp_arr.proofs.Faultless.{too_many-none_at, IsArrangement-from_apart}
 
 -- rows of one width, none zero and no two proportional
 pub record IsSimple {K : Type 0} (ring : RingOf K) (l : ℕ) (forms : List (List K)) : Type 0 where
@@ -20,61 +16,36 @@ pub record IsSimple {K : Type 0} (ring : RingOf K) (l : ℕ) (forms : List (List
   pub no_zero : (a : List K) → Contains forms a → is_zero_row ring a ≡ false
   pub no_multiple : Ordered (λ a b. ¬ (IsMultiple ring a b)) forms
 
-pub simple-append : {K : Type 0} {ring : RingOf K} (l : ℕ) (xs ys : List (List K)) → IsSimple ring l xs → IsSimple ring l ys → ((a b : List K) → Contains xs a → Contains ys b → ¬ (IsMultiple ring a b)) → IsSimple ring l (xs ++ ys)
+pub simple-append : {K : Type 0} {ring : RingOf K} (l : ℕ) (xs ys : List (List K)) → IsSimple ring l xs → IsSimple ring l ys
+    → ((a b : List K) → Contains xs a → Contains ys b → ¬ (IsMultiple ring a b)) → IsSimple ring l (xs ++ ys)
 simple-append {K = K} {ring = ring} l xs ys p q apart = record {
   rows = λ a c. elim (Contains-append_cases xs ys a c) [ inl d ↦ p.rows a d | inr d ↦ q.rows a d ];
   no_zero = λ a c. elim (Contains-append_cases xs ys a c) [ inl d ↦ p.no_zero a d | inr d ↦ q.no_zero a d ];
   no_multiple = Ordered-append (λ a b. ¬ (IsMultiple ring a b)) xs ys p.no_multiple q.no_multiple apart;
 }
 
--- so they are proper
-pub proper-from_simple : {K : Type 0} {ring : RingOf K} (l : ℕ) (forms : List (List K)) → IsSimple ring l forms → IsProper ring l forms
-proper-from_simple {K = K} {ring = ring} l forms simple = record {
-  rows = λ k d h. simple.rows (get_or forms k d) (Contains-get_or forms k d h);
-  no_zero = λ k d h. simple.no_zero (get_or forms k d) (Contains-get_or forms k d h);
-  no_multiple = pairs_from_Ordered (λ a b. ¬ (IsMultiple ring a b)) forms simple.no_multiple;
-}
+module _ {K : Type 0} {ring : RingOf K} {inverse : K → K} {numbers : Numbering K} (field : IsField ring inverse)
+    (num : IsNumbering ring numbers) where
+  abbrev Lawful : ℕ → List (List K) → Type 0
+  Lawful l forms = IsArrangement ring numbers (record { dim = l; forms = forms })
 
-module _ {K : Type 0} {ring : RingOf K} {numbers : Numbering K} (laws : IsRing ring) (numbering : IsNumbering ring numbers) where
-  pub proper-fault : (l : ℕ) (forms : List (List K)) → IsProper ring l forms → form_fault ring numbers forms ≡ too_many_fault numbers forms
-  proper-fault l forms proper =
-      let zero : zero_fault ring forms ≡ None = zero_fault-none ring forms (λ h low high. proper.no_zero (h - 1) [] (omega arith)) in
-      let repeated : repeated_fault ring numbers forms ≡ None = repeated_fault-none ring numbers forms (λ j from to. earlier_multiple-none ring numbers forms j (λ i low before. apart i j low before to)) in
-      ap (λ o. first_some (o ∷ repeated_fault ring numbers forms ∷ too_many_fault numbers forms ∷ [])) zero
-      ∙ ap (λ o. first_some (o ∷ too_many_fault numbers forms ∷ [])) repeated
-      ∙ first_some-single (too_many_fault numbers forms)
-    where
-      first_some-single : {X : Type 0} (o : Option X) → first_some (o ∷ []) ≡ o
-      first_some-single None = refl
-      first_some-single (Some x) = refl
+  lawful-from_simple : (l : ℕ) (forms : List (List K)) → 1 ≤ l → l ≤ max_dim → IsSimple ring l forms → too_many_fault numbers forms ≡ None
+      → Lawful l forms
+  lawful-from_simple l forms low high simple few =
+      let counts = too_many-none_at numbers forms few in
+      IsArrangement-from_apart field num (record { dim = l; forms = forms }) low high
+      (λ k d h. simple.rows (get_or forms k d) (Contains-get_or forms k d h)) counts.0 counts.1
+      (λ k d h. simple.no_zero (get_or forms k d) (Contains-get_or forms k d h))
+      (λ i j a b before at_i at_j.
+      let Apart : List K → List K → Type 0 = λ x y. ¬ (IsMultiple ring x y) in
+      let apart : Apart (get_or forms i []) (get_or forms j []) =
+      Ordered-at Apart forms i j [] simple.no_multiple before (slice_get_within forms j b at_j) in
+      subst (λ x. Apart x b) (get_or_from_slice_get forms i a [] at_i)
+      (subst (Apart (get_or forms i [])) (get_or_from_slice_get forms j b [] at_j) apart))
 
-      apart : (i j : ℕ) → 1 ≤ i → i < j → j ≤ length forms → is_multiple ring numbers (row forms i) (row forms j) ≡ false
-      apart i j low before to =
-          let row_i = proper.rows (i - 1) [] (omega arith) in
-          let row_j = proper.rows (j - 1) [] (omega arith) in
-          elim (cases_Bool (is_multiple ring numbers (row forms i) (row forms j))) [
-            | inl found ↦ absurd (proper.no_multiple (i - 1) (j - 1) [] (omega arith) (omega arith)
-                ((is_multiple-exact laws numbering (row forms i) (row forms j) (row_i.0 ∙ sym row_j.0) row_i.1 row_j.1).0 found))
-            | inr none ↦ none
-          ]
-
-  -- proper rows that are not too many have no fault, so that memory was out
-  pub proper-memory : (l : ℕ) (forms : List (List K)) (e : ArrFault) → too_many_fault numbers forms ≡ None → IsProper ring l forms → (e ≡ Memory) ⊎ (form_fault ring numbers forms ≡ Some e) → e ≡ Memory
-  proper-memory l forms e few proper (inl memory) = memory
-  proper-memory l forms e few proper (inr fault) = absurd (let f : None ≡ Some e = sym few ∙ sym (proper-fault l forms proper) ∙ fault in cc)
-
--- forms within both bounds are not too many
-pub not-too_many : {K : Type 0} (numbers : Numbering K) (forms : List (List K)) → length forms ≤ max_forms → length forms < numbers.order → too_many_fault numbers forms ≡ None
-not-too_many numbers forms few below =
-    let most = le-ltb max_forms (length forms) few in
-    let order = lt-leb numbers.order (length forms) below in
-    λ i. cond (most i || order i) (Some (TooMany (length forms))) None
-
--- each row of a proper list has so many coefficients
-pub proper-widths : {K Y : Type 0} {ring : RingOf K} (l : ℕ) (items : Y → List K) (rows : List Y) → IsProper ring l (map items rows) → All (λ row. length (items row) ≡ l) rows
-proper-widths l items rows proper =
-    λ k d h. ap length (sym (get_or-map items rows k d [] h)) ∙ (proper.rows k [] (subst (λ n. k < n) (sym (length-map rows items)) h)).0
-
--- rows are proper where the forms that they hold are
-pub proper-rows : {K Y : Type 0} {ring : RingOf K} (l : ℕ) (items : Y → List K) (rows : List Y) (forms : List (List K)) → map items rows ≡ forms → IsProper ring l forms → IsProper ring l (map items rows)
-proper-rows {ring = ring} l items rows forms e proper = subst (IsProper ring l) (sym e) proper
+  -- forms that were made as those of a family are lawful with it
+  pub lawful-made : (l : ℕ) (made forms : List (List K)) → 1 ≤ l → l ≤ max_dim → made ≡ forms
+      → (too_many_fault numbers forms ≡ None → IsSimple ring l forms) → too_many_fault numbers made ≡ None → Lawful l made
+  lawful-made l made forms low high e simple few =
+      let few_forms : too_many_fault numbers forms ≡ None = subst (λ fs. too_many_fault numbers fs ≡ None) e few in
+      subst (Lawful l) (sym e) (lawful-from_simple l forms low high (simple few_forms) few_forms)

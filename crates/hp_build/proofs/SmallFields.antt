@@ -1,26 +1,17 @@
 -- Over a field in which 1 and -1 may be equal, a family has too many forms or at most one.
-use Rattle.std.proofs.Common.{◌≡◌, ◌≢◌, ◌⊎◌, ℕ, ◌+◌, ◌<◌, ◌≤◌, ◌||◌, Bool, true, false, cond, nat_lt, nat_le, List, [], ◌∷◌, ◌++◌, flat_map, length, length-append, Some, None, refl, sym, ap, subst, ◌∙◌, inl, inr, arith}
-use Rattle.std.proofs.lemmas.Bool.{cases_lt, leb-false}
+use Rattle.std.proofs.Common.{◌≡◌, ◌≢◌, ◌⊎◌, ℕ, ◌+◌, ◌<◌, ◌≤◌, List, [], ◌∷◌, ◌++◌, flat_map, length, length-append, append-nil, None, refl, sym, ap, subst, ◌∙◌, inl, inr, arith}
+use Rattle.std.proofs.lemmas.Bool.{cases_lt}
 use Rattle.std.proofs.lemmas.List.{length-map}
 use Rattle.std.proofs.lemmas.List.FromFn.{length-range_with_len}
 use Rattle.hp_algebra.specs.Ring.{RingOf, Numbering, IsRing, IsNumbering}
-use Rattle.hp_algebra.specs.Lists.{one_to}
-use Rattle.hp_arr.specs.declared.fault.ArrFault.TheVariants.{TooMany}
-use Rattle.hp_arr.specs.Arrangement.{max_forms}
+use Rattle.hp_lists.specs.Lists.{one_to}
+use Rattle.hp_algebra.specs.Rows.{unit_row}
+use Rattle.hp_lists.proofs.Members.{Contains-none}
 use Rattle.hp_arr.specs.FormFaults.{too_many_fault}
-use Rattle.hp_arr.specs.Operations.{coordinate}
+use Rattle.hp_arr.proofs.Faultless.{too_many-none_at}
 use Rattle.hp_build.specs.Families.{pairs, difference, sum_form, boolean, type_b, type_d}
-use Rattle.hp_build.specs.Faults.{IsProper}
-use Rattle.hp_build.proofs.FamilyForms.{boolean-proper, type_b-proper, type_d-proper, one-minus_one}
-
--- forms that are not too many are fewer than the elements
-pub few-below_order : {K : Type 0} (numbers : Numbering K) (forms : List (List K)) → too_many_fault numbers forms ≡ None → length forms < numbers.order
-few-below_order numbers forms few = step (nat_lt max_forms (length forms)) (nat_le numbers.order (length forms)) refl few
-  where
-    step : (a b : Bool) → nat_le numbers.order (length forms) ≡ b → cond (a || b) (Some (TooMany (length forms))) None ≡ None → length forms < numbers.order
-    step true b e f = absurd (let g : Some (TooMany (length forms)) ≡ None = f in cc)
-    step false true e f = absurd (let g : Some (TooMany (length forms)) ≡ None = f in cc)
-    step false false e f = leb-false numbers.order (length forms) e
+use Rattle.hp_build.proofs.FamilyForms.{boolean-simple, type_b-simple, type_d-simple, one-minus_one}
+use Rattle.hp_build.proofs.Simple.{IsSimple}
 
 module _ {K : Type 0} {ring : RingOf K} {numbers : Numbering K} (laws : IsRing ring) (numbering : IsNumbering ring numbers) (one_zero : ring.one ≢ ring.zero) where
   abbrev both : ℕ → ℕ × ℕ → List (List K)
@@ -30,35 +21,31 @@ module _ {K : Type 0} {ring : RingOf K} {numbers : Numbering K} (laws : IsRing r
   none_of_one r [] few = refl
   none_of_one r (e ∷ es) few = absurd (omega (arith, few))
 
-  append-none : (xs : List (List K)) → xs ++ [] ≡ xs
-  append-none [] = refl
-  append-none (x ∷ xs) = ap (λ s. x ∷ s) (append-none xs)
-
-  -- where they are not too many, the forms of type D are proper
-  pub type_d-proper_few : (r : ℕ) → too_many_fault numbers (type_d ring r).forms ≡ None → IsProper ring r (type_d ring r).forms
-  type_d-proper_few r few = step (cases_lt numbers.order 3)
+  -- where they are not too many, the forms of type D are simple
+  pub type_d-simple_few : (r : ℕ) → too_many_fault numbers (type_d ring r).forms ≡ None → IsSimple ring r (type_d ring r).forms
+  type_d-simple_few r few = step (cases_lt numbers.order 3)
     where
       below : (b n : ℕ) → n < b → b < 3 → n ≤ 1
       below b n l h = omega arith
 
-      none : IsProper ring r []
-      none = record { rows = λ k d h. absurd (omega (arith, h)); no_zero = λ k d h. absurd (omega (arith, h)); no_multiple = λ i j d l h. absurd (omega (arith, h)) }
+      none : IsSimple ring r []
+      none = record { rows = λ a c. absurd (Contains-none a c); no_zero = λ a c. absurd (Contains-none a c); no_multiple = tt }
 
-      step : (numbers.order < 3) ⊎ (3 ≤ numbers.order) → IsProper ring r (type_d ring r).forms
-      step (inl small) = subst (IsProper ring r) (sym (none_of_one r (pairs r) (below numbers.order _ (few-below_order numbers (type_d ring r).forms few) small))) none
-      step (inr odd) = type_d-proper laws one_zero (one-minus_one laws numbering odd) r
+      step : (numbers.order < 3) ⊎ (3 ≤ numbers.order) → IsSimple ring r (type_d ring r).forms
+      step (inl small) = subst (IsSimple ring r) (sym (none_of_one r (pairs r) (below numbers.order _ ((too_many-none_at numbers (type_d ring r).forms few).1) small))) none
+      step (inr odd) = type_d-simple laws one_zero (one-minus_one laws numbering odd) r
 
   -- and those of type B
-  pub type_b-proper_few : (r : ℕ) → 1 ≤ r → too_many_fault numbers (type_b ring r).forms ≡ None → IsProper ring r (type_b ring r).forms
-  type_b-proper_few r low few = step (cases_lt numbers.order 3)
+  pub type_b-simple_few : (r : ℕ) → 1 ≤ r → too_many_fault numbers (type_b ring r).forms ≡ None → IsSimple ring r (type_b ring r).forms
+  type_b-simple_few r low few = step (cases_lt numbers.order 3)
     where
       below : (b r all first rest : ℕ) → all ≡ first + rest → first ≡ r → 1 ≤ r → all < b → b < 3 → rest ≤ 1
       below b r all first rest e f low l h = omega arith
 
-      step : (numbers.order < 3) ⊎ (3 ≤ numbers.order) → IsProper ring r (type_b ring r).forms
+      step : (numbers.order < 3) ⊎ (3 ≤ numbers.order) → IsSimple ring r (type_b ring r).forms
       step (inl small) =
           let all = length-append (boolean ring r).forms (type_d ring r).forms in
-          let first : length (boolean ring r).forms ≡ r = length-map (one_to r) (coordinate ring r) ∙ length-range_with_len 1 r in
-          let rest = none_of_one r (pairs r) (below numbers.order r _ _ _ all first low (few-below_order numbers (type_b ring r).forms few) small) in
-          subst (IsProper ring r) (sym (ap (λ s. (boolean ring r).forms ++ s) rest ∙ append-none (boolean ring r).forms)) (boolean-proper laws one_zero r)
-      step (inr odd) = type_b-proper laws one_zero (one-minus_one laws numbering odd) r
+          let first : length (boolean ring r).forms ≡ r = length-map (one_to r) (unit_row ring r) ∙ length-range_with_len 1 r in
+          let rest = none_of_one r (pairs r) (below numbers.order r _ _ _ all first low ((too_many-none_at numbers (type_b ring r).forms few).1) small) in
+          subst (IsSimple ring r) (sym (ap (λ s. (boolean ring r).forms ++ s) rest ∙ append-nil (boolean ring r).forms)) (boolean-simple laws one_zero r)
+      step (inr odd) = type_b-simple laws one_zero (one-minus_one laws numbering odd) r

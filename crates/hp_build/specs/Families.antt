@@ -1,9 +1,9 @@
 -- The arrangements of root systems, of coordinates and of graphs: their forms in order.
-use Rattle.std.specs.Prelude.{ℕ, ◌+◌, ◌==◌, nat_lt, min, max, if◌then◌else◌, ◌||◌, List, [], ◌∷◌, ◌++◌, map, filter, flat_map}
+use Rattle.std.specs.Prelude.{ℕ, ◌+◌, ◌==◌, nat_lt, min, max, if◌then◌else◌, List, [], ◌∷◌, ◌++◌, map, filter, flat_map}
 use Rattle.hp_algebra.specs.Ring.{RingOf}
-use Rattle.hp_algebra.specs.Lists.{one_to}
+use Rattle.hp_lists.specs.Lists.{one_to}
+use Rattle.hp_algebra.specs.Rows.{unit_row}
 use Rattle.hp_arr.specs.Arrangement.{Arrangement}
-use Rattle.hp_arr.specs.Operations.{coordinate}
 
 -- the pairs i < j of 1 to l, in lexicographic order
 abbrev pub pairs : ℕ → List (ℕ × ℕ)
@@ -18,11 +18,11 @@ module _ {K : Type 0} (ring : RingOf K) where
 
   -- x_i - x_j in l variables
   abbrev pub difference : ℕ → ℕ → ℕ → List K
-  difference l i j = map (λ k. if k == i then 1ₖ else if k == j then neg 1ₖ else 0ₖ) (one_to l)
+  difference l i j = two_terms l i j (neg 1ₖ)
 
   -- x_i + x_j in l variables
   abbrev pub sum_form : ℕ → ℕ → ℕ → List K
-  sum_form l i j = map (λ k. if k == i || k == j then 1ₖ else 0ₖ) (one_to l)
+  sum_form l i j = two_terms l i j 1ₖ
 
   -- the braid arrangement: x_i - x_j for i < j in r + 1 variables
   abbrev pub type_a : ℕ → Arrangement K
@@ -30,7 +30,7 @@ module _ {K : Type 0} (ring : RingOf K) where
 
   -- the coordinate hyperplanes: x_1 to x_r
   abbrev pub boolean : ℕ → Arrangement K
-  boolean r = record { dim = r; forms = map (coordinate ring r) (one_to r) }
+  boolean r = record { dim = r; forms = map (unit_row ring r) (one_to r) }
 
   -- x_i - x_j and x_i + x_j for each pair i < j
   abbrev pub type_d : ℕ → Arrangement K

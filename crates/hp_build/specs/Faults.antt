@@ -1,7 +1,7 @@
 -- When an arrangement of a family can't be built.
-use Rattle.std.specs.Prelude.{◌≡◌, ℕ, List, All, AllPairs, IsFalse, Some, None}
+use Rattle.std.specs.Prelude.{◌≡◌, ℕ, List, Some, None}
 use Rattle.hp_algebra.specs.Ring.{RingOf, Numbering}
-use Rattle.hp_arr.specs.Arrangement.{Arrangement, IsRow, IsMultiple, is_zero_row}
+use Rattle.hp_arr.specs.Arrangement.{Arrangement}
 use Rattle.hp_arr.specs.FormFaults.{too_many_fault}
 use Rattle.hp_arr.specs.declared.fault.ArrFault.TheVariants as fault
 use Rattle.hp_build.specs.Families.{graphic}
@@ -10,12 +10,6 @@ use Rattle.hp_build.specs.declared.fault.BuildFault.{BuildFault}
 use Rattle.hp_build.specs.declared.fault.BuildFault.TheVariants.{TooMany, Memory}
 use Rattle.hp_build.specs.declared.fault.GraphFault.{GraphFault}
 use Rattle.hp_build.specs.declared.fault.GraphFault.TheVariants as graph
-
--- rows of one width, of which none is zero and none a multiple of a later one
-pub record IsProper {K : Type 0} (ring : RingOf K) (l : ℕ) (forms : List (List K)) : Type 0 where
-  pub rows : All (IsRow ring l) forms
-  pub no_zero : All (λ a. IsFalse (is_zero_row ring a)) forms
-  pub no_multiple : AllPairs (λ a b. ¬ (IsMultiple ring a b)) forms
 
 -- the forms are too many; memory may be out at any time
 abbrev pub IsBuildFault : {K : Type 0} → Numbering K → Arrangement K → BuildFault → Type 0

@@ -1,6 +1,6 @@
 -- Lists of edges that make no simple graph.
 use Rattle.std.specs.Prelude.{ℕ, ◌-◌, ◌==◌, nat_le, min, max, Bool, not, ◌&&◌, ◌||◌, List, length, take, Option, find, slice_index_or}
-use Rattle.hp_algebra.specs.Lists.{one_to, list_any}
+use Rattle.hp_lists.specs.Lists.{one_to, list_any}
 
 -- two edges join the same vertices
 abbrev pub same_edge : ℕ × ℕ → ℕ × ℕ → Bool

@@ -1,12 +1,12 @@
 //! The edges of a graph, and the first that makes it no simple graph.
 
 ghost use Rattle.std.specs.Prelude.{◌≡◌, ◌-◌, ◌<◌, ◌≤◌, ◌^◌, ◌&&◌, nat_le, min, max, map, length, take, slice_index_or, IfOk};
-ghost use Rattle.hp_algebra.specs.Lists.{list_any};
+ghost use Rattle.hp_lists.specs.Lists.{list_any};
 ghost use Rattle.hp_build.specs.Families.{graphic};
 ghost use Rattle.hp_build.specs.Graphs.{same_edge, is_bad_edge, bad_edge};
 
 use crate::rows::differences;
-use hp_algebra::{Field, NoMem};
+use hp_algebra::{Field, List, NoMem};
 use std::alloc::Global;
 
 /// The number of the first bad edge, counted from 1.
@@ -68,8 +68,8 @@ pub fn edge_forms<K: Field>(
     alloc: Global,
     v: u32,
     edges: &[(u64, u64)],
-) -> Result<Vec<Vec<K>>, NoMem>
-    ensures { IfOk result (λ rows. map (λ row. row.items) rows.items ≡ (graphic K.ring v edges.now).forms) }
+) -> Result<Vec<List<K>>, NoMem>
+    ensures { IfOk result (λ forms. forms.items ≡ (graphic K.ring v edges.now).forms) }
 {
     let ends = rising_ends(alloc, edges)?;
     differences(alloc, v, &ends)

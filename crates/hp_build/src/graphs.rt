@@ -1,7 +1,7 @@
 //! The arrangement of a graph.
 
 ghost use Rattle.std.specs.Prelude.{◌≡◌, ◌-◌, ◌<◌, ◌≤◌, ◌^◌, IfOk, IfErr, OnOk, None, length};
-ghost use Rattle.hp_arr.specs.Arrangement.{IsArrangement};
+ghost use Rattle.hp_arr.specs.Arrangement.{IsArrangement, max_dim};
 ghost use Rattle.hp_arr.specs.FormFaults.{form_fault};
 ghost use Rattle.hp_build.specs.Families.{graphic};
 ghost use Rattle.hp_build.specs.Graphs.{bad_edge};
@@ -11,7 +11,7 @@ use crate::built::built;
 use crate::edges::{edge_forms, find_bad_edge};
 use crate::fault::{BuildFault, GraphFault};
 use hp_algebra::FiniteField;
-use hp_arr::{Arr, MAX_DIM};
+use hp_arr::Arr;
 use std::alloc::Global;
 
 /// The arrangement of the graph with `v` vertices and these edges: for each edge, with ends i < j, the form x_i - x_j in
@@ -26,7 +26,7 @@ pub fn graphic<K: FiniteField>(
     edges: &[(u64, u64)],
 ) -> Result<Arr<K>, GraphFault>
     requires low { 1 ≤ v }
-    requires high { v ≤ MAX_DIM }
+    requires high { v ≤ max_dim }
     requires count { length edges.now < 2 ^ 32 - 1 }
     ensures value { IfOk result (λ a. a ≡ graphic K.ring v edges.now) }
     ensures lawful { IfOk result (IsArrangement K.ring K.numbers) }
@@ -37,8 +37,8 @@ pub fn graphic<K: FiniteField>(
     if let Some(k) = find_bad_edge(v, edges) {
         return Err(GraphFault::BadGraph(k));
     }
-    let rows = edge_forms(alloc, v, edges)?;
-    match built(alloc, v, rows) {
+    let forms = edge_forms(alloc, v, edges)?;
+    match built(v, forms) {
         Ok(arr) => Ok(arr),
         Err(BuildFault::TooMany(n)) => Err(GraphFault::TooMany(n)),
         Err(BuildFault::Memory) => Err(GraphFault::Memory),

@@ -8,8 +8,6 @@ mod fault;
 mod graphs;
 mod pairs;
 mod rows;
-#[cfg(test)]
-mod tests;
 
 pub use families::{boolean, type_a, type_b, type_d};
 pub use fault::{BuildFault, GraphFault};

@@ -1,7 +1,7 @@
 //! The pairs of numbers from 1 to l.
 
 ghost use Rattle.std.specs.Prelude.{◌≡◌, ◌≤◌, ◌++◌, nat_lt, map, filter, IfOk, IsOk};
-ghost use Rattle.hp_algebra.specs.Lists.{one_to};
+ghost use Rattle.hp_lists.specs.Lists.{one_to};
 ghost use Rattle.hp_build.specs.Families.{pairs};
 
 use hp_algebra::NoMem;

@@ -1,5 +1,5 @@
 use Rattle.std.proofs.Common.{◌≡◌, ◌+◌, ◌-◌, get_or, true, sym, ap, ◌∙◌, arith}
-use Rattle.hp_arr.specs.Arrangement.{is_zero_row}
+use Rattle.hp_algebra.specs.Rows.{is_zero_row}
 use Rattle.hp_arr.specs.FormFaults.{row}
 use Rattle.hp_arr.proofs.FaultFacts.{zero_fault-first, zero_fault-none, row_read}
 use Rattle.hp_arr.proofs.fault_search.find_zero.Goals as goal

@@ -1,5 +1,5 @@
 use Rattle.std.proofs.Common.{◌≡◌, ℕ, ◌<◌, ◌≤◌, List, false, All, get_or}
-use Rattle.hp_arr.specs.Arrangement.{is_zero_row}
+use Rattle.hp_algebra.specs.Rows.{is_zero_row}
 use Rattle.hp_arr.specs.FormFaults.{row}
 use Rattle.hp_arr.proofs.fault_search.find_zero.Given as goal
 

@@ -13,7 +13,7 @@ returns-then-is_zero g c =
     let prefix = c.args.prefix.now in
     let k = length prefix + 1 in
     let value : c.plus.result ≡ dot_of ring f (prefix ++ c.args.v ∷ []) =
-    sum_is laws f prefix c.index-form-k.result c.args.v _ _ _ c.requires.values c.dot.ensures.point c.times.ensures.right c.requires.within c.index-form-k.is c.dot.ensures.value c.times.ensures.value c.plus.ensures.value in
+    sum_is laws f prefix c.index-form-k.result c.args.v _ _ _ c.requires.values c.form_value.ensures.point c.times.ensures.right c.requires.within c.index-form-k.is c.form_value.ensures.value c.times.ensures.value c.plus.ensures.value in
     let same : drop (length (prefix ++ c.args.v ∷ [])) f ≡ take (length f - k) (drop k f) = drop-snoc f prefix c.args.v ∙ sym (take_rest f k) in
     let zero = laws.zero_test c.plus.result c.plus.ensures.answer in
     let behind = (zero_row-all laws (take (length f - k) (drop k f)) c.is_zero.ensures.values).0 (sym c.is_zero.ensures.zero ∙ c.if-is_zero.true) in (

@@ -1,5 +1,5 @@
 use Rattle.std.proofs.Common.{◌≡◌, drop}
-use Rattle.hp_arr.specs.FormFaults.{same_row}
+use Rattle.hp_algebra.specs.Rows.{same_row}
 use Rattle.hp_arr.proofs.restriction.is_same.Given as goal
 
 abbrev pub invariant-loop-k : goal.invariant-loop-k

@@ -1,8 +1,7 @@
 use Rattle.std.proofs.Common.{◌≡◌, ◌<◌, [], ◌∷◌, ◌++◌, get_or, take, length, sym, ap, ◌∙◌, arith}
 use Rattle.std.proofs.lemmas.List.{get_or_read}
-use Rattle.hp_arr.specs.Arrangement.{scale}
-use Rattle.hp_arr.specs.FormFaults.{row_minus}
-use Rattle.hp_arr.proofs.RowDifferences.{row_minus-more}
+use Rattle.hp_algebra.specs.Rows.{row_scale, row_minus}
+use Rattle.hp_algebra.proofs.RowDifferences.{minus-more}
 use Rattle.hp_arr.proofs.restriction.minus_multiple.Goals as goal
 
 pub loop-k-preserved : goal.loop-k-preserved
@@ -20,5 +19,5 @@ loop-k-preserved g c =
     c.minus.ensures.value ∙ ap (λ v. ring.add v (ring.neg c.times.result)) y ∙ ap (λ v. ring.add (get_or b k ring.zero) (ring.neg v)) (c.times.ensures.value ∙ ap times x) in
     c.in_ok-push.ensures.items
     ∙ ap (λ row. row ++ c.minus.result ∷ []) c.loop-k.invariant
-    ∙ ap (λ v. row_minus ring (take k b) (scale ring c.args.c (take k a)) ++ v ∷ []) entry
-    ∙ sym (row_minus-more ring c.args.c b a k ring.zero in_b c.requires)
+    ∙ ap (λ v. row_minus ring (take k b) (row_scale ring c.args.c (take k a)) ++ v ∷ []) entry
+    ∙ sym (minus-more ring c.args.c b a k ring.zero in_b c.requires)

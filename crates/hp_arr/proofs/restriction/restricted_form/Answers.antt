@@ -1,5 +1,5 @@
 use Rattle.std.proofs.Common.{◌≡◌, length, ap, ◌∙◌, arith}
-use Rattle.hp_arr.proofs.RowDifferences.{length-minus_multiple}
+use Rattle.hp_algebra.proofs.RowDifferences.{length-minus_multiple}
 use Rattle.hp_arr.proofs.restriction.restricted_form.Goals as goal
 
 pub remove-requires : goal.remove-requires

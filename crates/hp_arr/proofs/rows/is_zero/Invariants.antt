@@ -1,5 +1,5 @@
 use Rattle.std.proofs.Common.{◌≡◌, ℕ, ◌<◌, get_or, take}
-use Rattle.hp_algebra.specs.Lists.{list_all}
+use Rattle.hp_lists.specs.Lists.{list_all}
 use Rattle.hp_arr.proofs.rows.is_zero.Given as goal
 
 abbrev pub invariant-loop-entry : goal.invariant-loop-entry

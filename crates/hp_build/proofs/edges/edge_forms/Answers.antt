@@ -9,4 +9,4 @@ returns g c =
     let v = c.args.v in
     let edges = c.args.edges.now in
     let joined = ap (map (λ (e : ℕ × ℕ). difference ring v e.0 e.1)) (c.deref.ensures.value ∙ c.in_ok-ends.ensures) ∙ map-map (λ (e : ℕ × ℕ). difference ring v e.0 e.1) (λ (e : ℕ × ℕ). (min e.0 e.1, max e.0 e.1)) edges in
-    subst (λ forms. IfOk c.differences.result (λ rows. map (λ row. row.items) rows.items ≡ forms)) joined c.differences.ensures
+    subst (λ forms. IfOk c.differences.result (λ made. made.items ≡ forms)) joined c.differences.ensures

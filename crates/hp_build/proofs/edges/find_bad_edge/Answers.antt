@@ -1,5 +1,5 @@
 use Rattle.std.proofs.Common.{◌-◌, length, take, slice_index_or, sym, ◌∙◌, arith}
-use Rattle.hp_arr.proofs.Firsts.{find-first, find-none}
+use Rattle.hp_lists.proofs.Firsts.{find-first, find-none}
 use Rattle.hp_build.specs.Graphs.{is_bad_edge}
 use Rattle.hp_build.proofs.edges.find_bad_edge.Goals as goal
 

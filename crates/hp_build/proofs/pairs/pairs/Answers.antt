@@ -1,6 +1,6 @@
 use Rattle.std.proofs.Common.{◌∙◌, arith}
 use Rattle.hp_build.proofs.ListedPairs.{pairs_from}
-use Rattle.hp_build.proofs.Ranges.{flat_map-next}
+use Rattle.hp_lists.proofs.Ranges.{flat_map-next}
 use Rattle.hp_build.proofs.pairs.pairs.Goals as goal
 
 pub loop-i-preserved : goal.loop-i-preserved

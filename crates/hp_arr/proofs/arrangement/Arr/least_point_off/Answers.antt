@@ -2,6 +2,7 @@ use Rattle.std.proofs.Common.{◌≡◌, [], ◌∷◌, ◌+◌, ◌<◌, length
 use Rattle.std.proofs.lemmas.List.Elements.{All-nil, All-push}
 use Rattle.hp_arr.specs.PointSearch.{IsNext}
 use Rattle.hp_arr.proofs.LeastPoint.{next_no_later, least_is, none_closed_at_first}
+use Rattle.hp_arr.proofs.LeastPointExists.{least_exists}
 use Rattle.hp_arr.proofs.arrangement.Arr.least_point_off.Goals as goal
 
 pub loop-init : goal.loop-init
@@ -47,10 +48,18 @@ loop-preserved g c =
       earliest = λ y row off. next_no_later laws g.met.K.Domain.domain_laws g.met.K.FiniteField.numbering point y c.args.self.now.forms v next row.1 off (let width = row.0 in let shorter : length point < length y = omega (arith, width, before) in shorter) (c.loop.invariant.earliest y row off);
     })
 
-pub returns : goal.returns
-returns g c =
+pub returns-clause-least : goal.returns-clause-least
+returns-clause-least g c =
     let laws = g.met.K.Ring.ring_laws in
     let dim : c.self.inside.dim ≡ c.args.self.now.dim = ap (λ a. a.dim) c.self.view_is in
     let count = c.loop.invariant.count in
     let width : length c.loop.point.items ≡ c.args.self.now.dim = omega (arith, dim, count) in
     least_is laws c.args.self.now (rw c.self.view_is at c.self.invariant) c.loop.point.items (width, c.loop.invariant.values) c.loop.invariant.none_closed c.loop.invariant.earliest
+
+pub returns-clause-exists : goal.returns-clause-exists
+returns-clause-exists g c =
+    least_exists g.met.K.Ring.ring_laws g.met.K.Domain.domain_laws g.met.K.FiniteField.numbering c.args.self.now (rw c.self.view_is at c.self.invariant)
+
+pub returns-in_err-push-clause-exists : goal.returns-in_err-push-clause-exists
+returns-in_err-push-clause-exists g c =
+    least_exists g.met.K.Ring.ring_laws g.met.K.Domain.domain_laws g.met.K.FiniteField.numbering c.args.self.now (rw c.self.view_is at c.self.invariant)

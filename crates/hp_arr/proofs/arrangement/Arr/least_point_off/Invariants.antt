@@ -1,5 +1,5 @@
 use Rattle.std.proofs.Common.{◌≡◌, List, All, length}
-use Rattle.hp_arr.specs.Arrangement.{IsRow}
+use Rattle.hp_algebra.specs.Rows.{IsRow}
 use Rattle.hp_arr.specs.PointSearch.{NoneClosed}
 use Rattle.hp_arr.proofs.LeastPoint.{IsOff, NoLater}
 use Rattle.hp_arr.proofs.arrangement.Arr.least_point_off.Given as goal

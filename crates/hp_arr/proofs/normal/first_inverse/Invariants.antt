@@ -1,5 +1,5 @@
 use Rattle.std.proofs.Common.{◌≡◌, ℕ, ◌<◌, get_or}
-use Rattle.hp_arr.proofs.restriction.first_inverse.Given as goal
+use Rattle.hp_arr.proofs.normal.first_inverse.Given as goal
 
 abbrev pub invariant-loop-k : goal.invariant-loop-k
 invariant-loop-k g l = (j : ℕ) → j < l.k → get_or l.row j g.K.Ring.ring.zero ≡ g.K.Ring.ring.zero

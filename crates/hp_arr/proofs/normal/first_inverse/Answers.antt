@@ -1,8 +1,9 @@
 use Rattle.std.proofs.Common.{◌≡◌, ap, ◌∙◌, arith}
 use Rattle.std.proofs.lemmas.Bool.{true≢false}
-use Rattle.hp_arr.specs.Operations.{entry, first_place}
+use Rattle.hp_algebra.specs.Rows.{entry}
+use Rattle.hp_arr.specs.Operations.{first_place}
 use Rattle.hp_arr.proofs.NonzeroPlaces.{first-found, not_all_zero}
-use Rattle.hp_arr.proofs.restriction.first_inverse.Goals as goal
+use Rattle.hp_arr.proofs.normal.first_inverse.Goals as goal
 
 pub returns-in-Some : goal.returns-in-Some
 returns-in-Some g c =

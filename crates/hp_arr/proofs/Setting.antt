@@ -1,0 +1,45 @@
+-- A lawful arrangement over a finite field, with all laws in one record.
+use Rattle.std.specs.Prelude.{ℕ, List, length}
+use Rattle.hp_algebra.specs.Ring.{RingOf, Numbering, IsField, IsNumbering}
+use Rattle.hp_algebra.proofs.Finite.{Finite}
+use Rattle.hp_sets.specs.Sets.{Set}
+use Rattle.hp_arr.specs.Arrangement.{Arrangement, IsArrangement}
+use Rattle.hp_arr.specs.Flats.{cut, closure, rank}
+use Rattle.hp_arr.proofs.OverField.{IsOverField}
+
+pub record Setting (K : Type 0) : Type 1 where
+  pub ring : RingOf K
+  pub inverse : K → K
+  pub numbers : Numbering K
+  pub arr : Arrangement K
+  pub field : IsField ring inverse
+  pub num : IsNumbering ring numbers
+  pub lawful : IsArrangement ring numbers arr
+
+-- the record of the laws, from where a function's bounds and an arrangement give them
+module _ {K : Type 0} {ring : RingOf K} {inverse : K → K} {numbers : Numbering K} {arr : Arrangement K} where
+  abbrev pub setting : IsField ring inverse → IsNumbering ring numbers → IsArrangement ring numbers arr → Setting K
+  setting field num lawful =
+      record { ring = ring; inverse = inverse; numbers = numbers; arr = arr; field = field; num = num; lawful = lawful }
+
+module _ {K : Type 0} (S : Setting K) where
+  -- the same facts in one record, and the field alone
+  abbrev pub over : IsOverField S.ring S.inverse S.numbers S.arr
+  over = record { field = S.field; numbering = S.num; arrangement = S.lawful }
+
+  abbrev pub finite : Finite K
+  finite = record { ring = S.ring; inverse = S.inverse; numbers = S.numbers; field = S.field; num = S.num }
+
+  -- the number of hyperplanes
+  abbrev pub n : ℕ
+  n = length S.arr.forms
+
+  -- the common points of a set, its closure and its rank
+  abbrev pub cut_of : Set → List (List K)
+  cut_of s = cut S.ring S.numbers S.arr s
+
+  abbrev pub cl : Set → Set
+  cl s = closure S.ring S.numbers S.arr s
+
+  abbrev pub rk : Set → ℕ
+  rk s = rank S.ring S.numbers S.arr s
