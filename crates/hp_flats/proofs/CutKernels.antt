@@ -3,25 +3,22 @@ use Rattle.std.proofs.Common.{◌≡◌, ◌≢◌, ℕ, ◌+◌, ◌-◌, ◌*�
 use Rattle.std.proofs.lemmas.List.{get_or-map, get_or-replicate}
 use Rattle.std.proofs.lemmas.List.Elements.{Contains-get_or}
 use Rattle.std.proofs.lemmas.List.Folds.{list_all-map}
-use Rattle.hp_algebra.specs.Ring.{RingOf, Numbering, IsRing, IsField, IsNumbering, dot_of}
-use Rattle.hp_algebra.specs.Lists.{list_all}
-use Rattle.hp_algebra.proofs.Dots.{dot_of_value}
-use Rattle.hp_algebra.proofs.Members.{Contains-filter, filter-Contains, all-at, all-from, Contains-map, map-Contains, filter-ext}
-use Rattle.hp_algebra.proofs.Rising.{Ordered-filter}
+use Rattle.hp_algebra.specs.Ring.{RingOf, Numbering, IsRing, IsField, IsNumbering, dot_of, elements}
+use Rattle.hp_lists.specs.Lists.{list_all, ListsOnce}
+use Rattle.hp_algebra.proofs.Dots.{dot_of_value, dot-comm, map-zeros}
+use Rattle.hp_lists.proofs.Members.{Contains-filter, filter-Contains, all-at, all-from, Contains-map, map-Contains, filter-ext, each-All}
+use Rattle.hp_lists.proofs.Ordered.{Ordered-filter}
 use Rattle.hp_arr.specs.Arrangement.{Arrangement, IsArrangement, form, indices, lies_in}
-use Rattle.hp_arr.specs.Flats.{cut, flat, points, rank}
-use Rattle.hp_arr.specs.FormFaults.{elements}
+use Rattle.hp_arr.specs.Flats.{cut, closure, points, rank}
 use Rattle.hp_arr.proofs.OverField.{IsOverField}
 use Rattle.hp_arr.proofs.Ranks.{rank-unique}
-use Rattle.hp_linear.specs.Rows.{IsRow, zero_row}
+use Rattle.hp_algebra.specs.Rows.{IsRow, zero_row}
 use Rattle.hp_linear.specs.Spaces.{IsBasisOf}
 use Rattle.hp_linear.specs.Matrices.{IsMatrix, IsKernelMember, IsRank}
-use Rattle.hp_linear.specs.Points.{ListsOnce}
 use Rattle.hp_linear.proofs.Combinations.{span-dot}
-use Rattle.hp_linear.proofs.Dots.{dot-comm, map-zeros}
 use Rattle.hp_linear.proofs.Existence.{rank-exists, kernel-points}
-use Rattle.hp_linear.proofs.Members.{each-All}
-use Rattle.hp_linear.proofs.Points.{words-once, elements-once, words-rows, rows-words}
+use Rattle.hp_algebra.proofs.Elements.{words-rows, rows-words, rows-once}
+use Rattle.hp_algebra.proofs.Finite.{Finite}
 use Rattle.hp_sets.specs.Sets.{Set, IsSetWithin}
 use Rattle.hp_sets.proofs.SetLaws.{set_members, test-ext, one_to-set}
 use Rattle.hp_flats.specs.Matrices.{forms_matrix}
@@ -30,6 +27,9 @@ module _ {K : Type 0} {ring : RingOf K} {inverse : K → K} {numbers : Numbering
     (arr : Arrangement K) (lawful : IsArrangement ring numbers arr) where
   L : IsRing ring
   L = field.is_ring
+
+  abbrev F : Finite K
+  F = record { ring = ring; inverse = inverse; numbers = numbers; field = field; num = num }
 
   abbrev pub n : ℕ
   n = length arr.forms
@@ -58,7 +58,7 @@ module _ {K : Type 0} {ring : RingOf K} {inverse : K → K} {numbers : Numbering
   unfolding cut points elements
   cut-kernel s x within c =
       let w = filter-Contains (λ x. list_all (λ i. lies_in ring arr i x) s) (points ring numbers arr.dim) x c in
-      let r = words-rows field num arr.dim x w.0 in (
+      let r = words-rows F arr.dim x w.0 in (
         r,
         map-zeros L (λ row. dot_of ring row x) (map (form arr) s) (λ row d.
             let i = map-Contains (form arr) s row d in
@@ -69,7 +69,7 @@ module _ {K : Type 0} {ring : RingOf K} {inverse : K → K} {numbers : Numbering
   kernel-cut : (s : Set) (x : List K) → IsSetWithin n s → IsKernelMember ring (forms_matrix arr s) x → Contains (cut ring numbers arr s) x
   unfolding cut points elements
   kernel-cut s x within (r, zeros) =
-      Contains-filter (λ x. list_all (λ i. lies_in ring arr i x) s) (points ring numbers arr.dim) x (rows-words field num arr.dim x r)
+      Contains-filter (λ x. list_all (λ i. lies_in ring arr i x) s) (points ring numbers arr.dim) x (rows-words F arr.dim x r)
       (all-from (λ i. lies_in ring arr i x) s (λ i c.
       let h = set_members n s i within c in
       zero-lies i x h.0 h.1 r (zero-at (map (form arr) s) (form arr i) zeros (Contains-map (form arr) s i c))))
@@ -84,13 +84,13 @@ module _ {K : Type 0} {ring : RingOf K} {inverse : K → K} {numbers : Numbering
   unfolding cut points elements
   cut-once s within = record {
     members = λ x. ((λ c. cut-kernel s x within c), (λ k. kernel-cut s x within k));
-    once = Ordered-filter (λ x y. x ≢ y) (λ x. list_all (λ i. lies_in ring arr i x) s) (points ring numbers arr.dim) (words-once (elements numbers) arr.dim (elements-once field num));
+    once = Ordered-filter (λ x y. x ≢ y) (λ x. list_all (λ i. lies_in ring arr i x) s) (points ring numbers arr.dim) (rows-once F arr.dim);
   }
 
   -- A hyperplane contains the cut exactly where it contains each point of a basis of the kernel.
   pub flat-basis : (s : Set) (basis : List (List K)) → IsSetWithin n s → IsBasisOf ring arr.dim (IsKernelMember ring (forms_matrix arr s)) basis
-      → flat ring numbers arr s ≡ filter (λ j. list_all (lies_in ring arr j) basis) (indices arr)
-  unfolding flat
+      → closure ring numbers arr s ≡ filter (λ j. list_all (lies_in ring arr j) basis) (indices arr)
+  unfolding closure
   flat-basis s basis within is = filter-ext (λ j. list_all (lies_in ring arr j) (cut ring numbers arr s)) (λ j. list_all (lies_in ring arr j) basis) (indices arr) (λ j c.
       let h = set_members n (indices arr) j (one_to-set n) c in
       test-ext _ _
@@ -107,7 +107,7 @@ module _ {K : Type 0} {ring : RingOf K} {inverse : K → K} {numbers : Numbering
 
   -- the same of objects that hold the points
   pub flat-of_basis : {A : Type 0} (f : A → List K) (s : Set) (basis : List A) → IsSetWithin n s → IsBasisOf ring arr.dim (IsKernelMember ring (forms_matrix arr s)) (map f basis)
-      → filter (λ j. list_all (λ x. lies_in ring arr j (f x)) basis) (indices arr) ≡ flat ring numbers arr s
+      → filter (λ j. list_all (λ x. lies_in ring arr j (f x)) basis) (indices arr) ≡ closure ring numbers arr s
   flat-of_basis f s basis within is =
       filter-ext (λ j. list_all (λ x. lies_in ring arr j (f x)) basis) (λ j. list_all (lies_in ring arr j) (map f basis)) (indices arr) (λ j c. sym (list_all-map (lies_in ring arr j) f basis))
       ∙ sym (flat-basis s (map f basis) within is)

@@ -1,6 +1,8 @@
-pub mod Collecting
-pub mod Covers
+pub mod CoverLoop
+pub mod CoverPuts
+pub mod CoverSets
+pub mod CoverSteps
 pub mod CutKernels
-pub mod Inserting
-pub mod Searches
+pub mod RankLevels
 pub mod Spans
+pub mod ValuePoints

@@ -2,20 +2,20 @@
 use Rattle.std.proofs.Common.{◌≡◌, ◌≢◌, ◌⊎◌, ◌↔◌, ℕ, ◌<◌, List, [], ◌∷◌, map, length, Contains, sym, ap, subst, ◌∙◌, arith, inl, inr}
 use Rattle.std.proofs.lemmas.List.Elements.{All-cons}
 use Rattle.hp_algebra.specs.Ring.{RingOf, Numbering, IsRing, IsField, dot_of}
-use Rattle.hp_algebra.proofs.Members.{Contains-here, map-Contains}
+use Rattle.hp_lists.proofs.Members.{Contains-here, map-Contains}
 use Rattle.hp_algebra.proofs.Rings.{zero_mul, mul_zero}
 use Rattle.hp_arr.specs.Arrangement.{Arrangement, form}
-use Rattle.hp_arr.specs.Flats.{flat, rank}
+use Rattle.hp_arr.specs.Flats.{closure, rank}
 use Rattle.hp_arr.proofs.Cuts.{IsIndex, set-indices, cut-members, members-cut, flat-members, members-flat, flat-set, flat-extends, cut-from_flat}
 use Rattle.hp_arr.proofs.OverField.{IsOverField}
 use Rattle.hp_arr.proofs.Ranks.{rank-cut}
-use Rattle.hp_linear.specs.Rows.{IsRow, entry}
+use Rattle.hp_algebra.specs.Rows.{IsRow, entry}
 use Rattle.hp_linear.specs.Spaces.{IsCombination, HaveSameSpan}
 use Rattle.hp_linear.specs.Matrices.{Matrix, IsMatrix, IsKernelMember}
 use Rattle.hp_linear.specs.Echelon.{PivotRow, IsReduced, IsReductionOf, IsFreeSolution, rows_of}
-use Rattle.hp_linear.proofs.Rows.{entry-value, zero_row-ext}
-use Rattle.hp_linear.proofs.Combinations.{combination-row, span-dot, span-member, same_span-from, dot-plus}
-use Rattle.hp_linear.proofs.Dots.{dot-single}
+use Rattle.hp_algebra.proofs.Rows.{entry-value, zero_row-ext}
+use Rattle.hp_linear.proofs.Combinations.{combination-row, span-dot, span-member, same_span-from}
+use Rattle.hp_algebra.proofs.Dots.{dot-plus, dot-single}
 use Rattle.hp_linear.proofs.Existence.{reduced-exists, reduction, free_up_to}
 use Rattle.hp_linear.proofs.Kernels.{find_pivot, free-last, free-solves, kernel-from, kernel-to}
 use Rattle.hp_linear.proofs.Reduction.{DiffersBySpan, reduced-rows, span-nothing}
@@ -85,7 +85,7 @@ module _ {R : Type 0} {ring : RingOf R} {inverse : R → R} (field : IsField rin
 
 module _ {K : Type 0} {ring : RingOf K} {inverse : K → K} {numbers : Numbering K} {arr : Arrangement K} (over : IsOverField ring inverse numbers arr) where
   -- A hyperplane is in the closure of a set exactly where its form is a combination of the forms of the set.
-  pub flat-span : (s : Set) (j : ℕ) → IsSetWithin (length arr.forms) s → IsIndex arr j → Contains (flat ring numbers arr s) j ↔ IsCombination ring arr.dim (map (form arr) s) (form arr j)
+  pub flat-span : (s : Set) (j : ℕ) → IsSetWithin (length arr.forms) s → IsIndex arr j → Contains (closure ring numbers arr s) j ↔ IsCombination ring arr.dim (map (form arr) s) (form arr j)
   flat-span s j within r =
       let points = cut-once over.field over.numbering arr over.arrangement s within in
       let matrix = forms-matrix over.field over.numbering arr over.arrangement s within in
@@ -100,15 +100,15 @@ module _ {K : Type 0} {ring : RingOf K} {inverse : K → K} {numbers : Numbering
 
   -- Sets whose forms have one span have one closure and one rank.
   pub flat-same_span : (s t : Set) → IsSetWithin (length arr.forms) s → IsSetWithin (length arr.forms) t → HaveSameSpan ring arr.dim (map (form arr) s) (map (form arr) t)
-      → (flat ring numbers arr s ≡ flat ring numbers arr t) × (rank ring numbers arr s ≡ rank ring numbers arr t)
+      → (closure ring numbers arr s ≡ closure ring numbers arr t) × (rank ring numbers arr s ≡ rank ring numbers arr t)
   flat-same_span s t p q same =
-      let one : flat ring numbers arr s ≡ flat ring numbers arr t = set-ext (length arr.forms) (length arr.forms) (flat ring numbers arr s) (flat ring numbers arr t) (flat-set over s) (flat-set over t)
+      let one : closure ring numbers arr s ≡ closure ring numbers arr t = set-ext (length arr.forms) (length arr.forms) (closure ring numbers arr s) (closure ring numbers arr t) (flat-set over s) (flat-set over t)
       (λ j c. let r = (flat-members over s j c).0 in (flat-span t j q r).1 ((same (form arr j)).0 ((flat-span s j p r).0 c)))
       (λ j c. let r = (flat-members over t j c).0 in (flat-span s j p r).1 ((same (form arr j)).1 ((flat-span t j q r).0 c))) in
       (one, rank-cut over s t (cut-from_flat over s t (set-indices arr s p) (set-indices arr t q) one))
 
   -- a form of a set is a combination of the forms of any set with the same closure
-  form-span : (s t : Set) → IsSetWithin (length arr.forms) s → IsSetWithin (length arr.forms) t → flat ring numbers arr s ≡ flat ring numbers arr t
+  form-span : (s t : Set) → IsSetWithin (length arr.forms) s → IsSetWithin (length arr.forms) t → closure ring numbers arr s ≡ closure ring numbers arr t
       → (b : List K) → Contains (map (form arr) s) b → IsCombination ring arr.dim (map (form arr) t) b
   form-span s t p q e b c =
       let w = map-Contains (form arr) s b c in
@@ -116,7 +116,7 @@ module _ {K : Type 0} {ring : RingOf K} {inverse : K → K} {numbers : Numbering
       subst (IsCombination ring arr.dim (map (form arr) t)) w.2 ((flat-span t w.0 q (set-indices arr s p w.0 w.1)).0 inside)
 
   -- Sets with one closure have forms with one span.
-  pub same_span-flat : (s t : Set) → IsSetWithin (length arr.forms) s → IsSetWithin (length arr.forms) t → flat ring numbers arr s ≡ flat ring numbers arr t
+  pub same_span-flat : (s t : Set) → IsSetWithin (length arr.forms) s → IsSetWithin (length arr.forms) t → closure ring numbers arr s ≡ closure ring numbers arr t
       → HaveSameSpan ring arr.dim (map (form arr) s) (map (form arr) t)
   same_span-flat s t p q e =
       same_span-from over.field.is_ring arr.dim (map (form arr) s) (map (form arr) t)

@@ -1,2 +1,4 @@
+pub mod Bounds
+pub mod Covers
+pub mod Levels
 pub mod Matrices
-pub mod Searching

@@ -1,9 +1,9 @@
 //! The closure and the rank of a set of hyperplanes, by a basis of their common points.
 
-ghost use Rattle.std.specs.Prelude.{◌≡◌, ◌+◌, ◌<◌, ◌≤◌, IfOk, if◌then◌else◌, All, filter, length, map, slice_index_or};
-ghost use Rattle.hp_algebra.specs.Lists.{list_all};
+ghost use Rattle.std.specs.Prelude.{◌≡◌, ◌+◌, ◌*◌, ◌^◌, ◌<◌, ◌≤◌, IfOk, if◌then◌else◌, All, filter, length, map, slice_index_or};
+ghost use Rattle.hp_lists.specs.Lists.{list_all};
 ghost use Rattle.hp_arr.specs.Arrangement.{IsArrangement, form, indices, lies_in};
-ghost use Rattle.hp_arr.specs.Flats.{flat, rank};
+ghost use Rattle.hp_arr.specs.Flats.{closure, cut, rank};
 ghost use Rattle.hp_flats.specs.Matrices.{forms_matrix};
 ghost use Rattle.hp_linear.specs.Matrices.{IsKernelMember, IsRank};
 ghost use Rattle.hp_linear.specs.Spaces.{IsBasisOf};
@@ -12,7 +12,7 @@ ghost use Rattle.hp_sets.specs.Sets.{IsSetWithin, with_member};
 use hp_algebra::{FiniteField, NoMem};
 use hp_arr::Arr;
 use hp_linear::Matrix;
-use hp_sets::{Flat, HSet};
+use hp_sets::HSet;
 use std::alloc::Global;
 
 /// The closure of a set of hyperplanes: all hyperplanes that contain the intersection of those of the set.
@@ -20,10 +20,11 @@ use std::alloc::Global;
 /// Errors: `NoMem` where memory is out.
 pub fn closure<K: FiniteField>(alloc: Global, arr: &Arr<K>, s: HSet) -> Result<HSet, NoMem>
     requires { IsSetWithin (length arr.now.forms) s }
-    ensures value { IfOk result (λ f. f ≡ flat K.ring K.numbers arr.now s) }
+    ensures value { IfOk result (λ f. f ≡ closure K.ring K.numbers arr.now s) }
     ensures set { IfOk result (IsSetWithin (length arr.now.forms)) }
 {
-    Ok(flat_of(alloc, arr, s)?.set)
+    let basis = cut_basis(alloc, arr, s)?;
+    Ok(containing(arr, &basis))
 }
 
 /// The rank of a set of hyperplanes: the codimension of their intersection.
@@ -31,29 +32,15 @@ pub fn closure<K: FiniteField>(alloc: Global, arr: &Arr<K>, s: HSet) -> Result<H
 /// Errors: `NoMem` where memory is out.
 pub fn rank<K: FiniteField>(alloc: Global, arr: &Arr<K>, s: HSet) -> Result<u32, NoMem>
     requires { IsSetWithin (length arr.now.forms) s }
-    ensures { IfOk result (λ r. r ≡ rank K.ring K.numbers arr.now s) }
+    ensures value { IfOk result (λ r. r ≡ rank K.ring K.numbers arr.now s) }
+    ensures points { IfOk result (λ r. length (cut K.ring K.numbers arr.now s) * K.numbers.order ^ r ≡ K.numbers.order ^ arr.now.dim) }
 {
     let basis = cut_basis(alloc, arr, s)?;
     Ok(arr.dim() - basis.len() as u32)
 }
 
-/// The closure of a set of hyperplanes, with its rank.
-pub fn flat_of<K: FiniteField>(alloc: Global, arr: &Arr<K>, s: HSet) -> Result<Flat, NoMem>
-    requires { IsSetWithin (length arr.now.forms) s }
-    ensures set { IfOk result (λ f. f.set ≡ flat K.ring K.numbers arr.now s) }
-    ensures within { IfOk result (λ f. IsSetWithin (length arr.now.forms) f.set) }
-    ensures rank { IfOk result (λ f. f.rank ≡ rank K.ring K.numbers arr.now s) }
-    ensures lawful { IsArrangement K.ring K.numbers arr.now }
-{
-    let basis = cut_basis(alloc, arr, s)?;
-    Ok(Flat {
-        rank: arr.dim() - basis.len() as u32,
-        set: containing(arr, &basis),
-    })
-}
-
 /// A basis of the space of the points that lie in all hyperplanes of the set.
-pub fn cut_basis<K: FiniteField>(alloc: Global, arr: &Arr<K>, s: HSet) -> Result<Vec<Vec<K>>, NoMem>
+fn cut_basis<K: FiniteField>(alloc: Global, arr: &Arr<K>, s: HSet) -> Result<Vec<Vec<K>>, NoMem>
     requires { IsSetWithin (length arr.now.forms) s }
     ensures basis { IfOk result (λ basis. IsBasisOf K.ring arr.now.dim (IsKernelMember K.ring (forms_matrix arr.now s)) (map (λ x. x.items) basis.items)) }
     ensures lawful { IsArrangement K.ring K.numbers arr.now }
@@ -89,7 +76,7 @@ fn member(s: HSet, k: u32) -> u32
 }
 
 /// The hyperplanes that contain all of these points.
-pub fn containing<K: FiniteField>(arr: &Arr<K>, points: &[Vec<K>]) -> HSet
+fn containing<K: FiniteField>(arr: &Arr<K>, points: &[Vec<K>]) -> HSet
     requires { All (λ x. length x.items ≡ arr.now.dim) points.now }
     ensures value { result ≡ filter (λ j. list_all (λ x. lies_in K.ring arr.now j x.items) points.now) (indices arr.now) }
     ensures set { IsSetWithin (length arr.now.forms) result }
@@ -102,7 +89,7 @@ pub fn containing<K: FiniteField>(arr: &Arr<K>, points: &[Vec<K>]) -> HSet
 }
 
 /// The set with `j` where the test holds.
-fn with_if(set: HSet, j: u32, test: bool) -> HSet
+pub fn with_if(set: HSet, j: u32, test: bool) -> HSet
     requires low { 1 ≤ j }
     requires high { j ≤ 64 }
     ensures { result ≡ (if test then with_member set j else set) }

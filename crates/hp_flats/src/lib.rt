@@ -2,11 +2,13 @@
 #![tactic(auto)]
 
 mod closing;
+mod covers;
+mod levels;
 mod listing;
 mod stop;
-#[cfg(test)]
-mod tests;
+mod values;
 
 pub use closing::{closure, rank};
+pub use levels::{Covered, flats_with_covers};
 pub use listing::flats;
-pub use stop::FlatStop;
+pub use stop::{FlatStop, MOST_FLATS};

@@ -7,10 +7,16 @@ use hp_algebra::NoMem;
 use std::alloc::{AllocError, AllocFailed};
 use thiserror::Error;
 
+/// So many flats are listed, and no more.
+pub const MOST_FLATS: usize = 100_000;
+
+// The definitions name this number too, as `most_flats`.
+const _: () = prove!(MOST_FLATS == 100_000);
+
 /// Why the flats of an arrangement are not listed.
 #[derive(Clone, Copy, Debug, PartialEq, Eq, Error)]
 pub enum FlatStop {
-    /// There are more than 100,000.
+    /// There are more than `MOST_FLATS`.
     #[error("there are more than 100000 flats")]
     TooMany,
     /// Memory is out.

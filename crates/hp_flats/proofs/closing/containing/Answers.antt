@@ -1,9 +1,9 @@
 use Rattle.std.proofs.Common.{◌≡◌, ◌-◌, ◌≤◌, if◌then◌else◌, length, sym, subst, ◌∙◌, arith}
-use Rattle.hp_algebra.specs.Lists.{list_all}
+use Rattle.hp_lists.specs.Lists.{list_all}
 use Rattle.hp_arr.specs.Arrangement.{lies_in}
 use Rattle.hp_sets.specs.Sets.{IsSetWithin, with_member}
 use Rattle.hp_sets.proofs.SetLaws.{filter-set}
-use Rattle.hp_flats.proofs.Collecting.{next_found}
+use Rattle.hp_sets.proofs.Collecting.{next_found}
 use Rattle.hp_flats.proofs.closing.containing.Goals as goal
 
 pub loop-j-preserved : goal.loop-j-preserved

@@ -1,5 +1,5 @@
 use Rattle.std.proofs.Common.{◌≡◌, ◌-◌, filter}
-use Rattle.hp_algebra.specs.Lists.{list_all, one_to}
+use Rattle.hp_lists.specs.Lists.{list_all, one_to}
 use Rattle.hp_arr.specs.Arrangement.{lies_in}
 use Rattle.hp_flats.proofs.closing.containing.Given as goal
 

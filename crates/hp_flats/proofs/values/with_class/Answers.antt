@@ -1,0 +1,38 @@
+use Rattle.std.proofs.Common.{◌≡◌, ◌↔◌, ◌+◌, ◌≤◌, ℕ, true, length, sym, subst, arith}
+use Rattle.hp_sets.specs.Sets.{IsSetWithin}
+use Rattle.hp_sets.proofs.SetLaws.{set-wider}
+use Rattle.hp_flats.specs.Levels.{IsOfClass}
+use Rattle.hp_sets.proofs.ClassSteps.{TakesUp, takes-none, takes-step, takes-all, takes-set}
+use Rattle.hp_flats.proofs.values.with_class.Goals as goal
+
+pub loop-k-init : goal.loop-k-init
+loop-k-init g c =
+    let P : ℕ → Type 0 = λ m. IsOfClass g.K.Ring.ring c.args.rows.now c.args.covered c.args.q c.args.i (length c.args.arr.now.forms) m in
+    record { set = c.requires.set; members = takes-none c.args.set P c.args.i (λ m p l. omega (arith, p.0, l)) }
+
+pub loop-k-preserved : goal.loop-k-preserved
+loop-k-preserved g c =
+    let n = length c.args.arr.now.forms in
+    let k = c.loop-k.k in
+    let found = c.loop-k.found in
+    let P : ℕ → Type 0 = λ m. IsOfClass g.K.Ring.ring c.args.rows.now c.args.covered c.args.q c.args.i n m in
+    let low : 1 ≤ k = omega (arith, c.requires.low, c.loop-k.auto.k) in
+    let high : k ≤ n = omega (arith, c.loop-k-test.true, c.len-k-end.ensures.value) in
+    let few : n ≤ 60 = c.len-k-end.ensures.lawful.few_forms in
+    let word = set-wider n 64 found (omega (arith, few)) c.loop-k.invariant.set in
+    let h : (c.is_of_class.result ≡ true) ↔ P k =
+    ((λ t. let w = c.is_of_class.ensures.0 t in (c.loop-k.auto.k, high, w.0, w.1)), λ p. c.is_of_class.ensures.1 (p.2, p.3)) in
+    record {
+      set = subst (IsSetWithin n) (sym c.with_if-found.ensures) (takes-set n k found c.is_of_class.result c.loop-k.invariant.set high);
+      members = subst (TakesUp c.args.set P (k + 1)) (sym c.with_if-found.ensures)
+          (takes-step c.args.set P k found word low (omega (arith, high, few)) c.loop-k.invariant.members c.is_of_class.result h);
+    }
+
+pub returns-clause-set : goal.returns-clause-set
+returns-clause-set g c = c.loop-k.invariant.set
+
+pub returns-clause-members : goal.returns-clause-members
+returns-clause-members g c =
+    let n = length c.args.arr.now.forms in
+    let P : ℕ → Type 0 = λ m. IsOfClass g.K.Ring.ring c.args.rows.now c.args.covered c.args.q c.args.i n m in
+    takes-all c.args.set P c.loop-k.k c.loop-k.found (λ m p. let h : m ≤ n = p.1 in omega (arith, h, c.loop-k-test.false, c.len-k-end.ensures.value)) c.loop-k.invariant.members
