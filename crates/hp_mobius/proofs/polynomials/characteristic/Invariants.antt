@@ -1,0 +1,8 @@
+use Rattle.std.specs.Prelude.{◌≡◌, ◌-◌, map}
+use Rattle.hp_lists.specs.Lists.{below}
+use Rattle.hp_arr.specs.Moebius.{rank_sum}
+use Rattle.hp_mobius.proofs.polynomials.characteristic.Given as goal
+
+-- the coefficients so far
+abbrev pub invariant-loop-k : goal.invariant-loop-k
+invariant-loop-k g l = l.coefficients.items ≡ map (λ k. rank_sum g.K.Ring.ring g.K.FiniteField.numbers l.arr (l.arr.dim - k)) (below l.k)
