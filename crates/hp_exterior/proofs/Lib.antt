@@ -1,0 +1,12 @@
+pub mod BoundaryLaws
+pub mod BoundarySteps
+pub mod Crossings
+pub mod DegreeLaws
+pub mod ElementFunctionals
+pub mod Functionals
+pub mod GradedLaws
+pub mod Inserted
+pub mod Negations
+pub mod ProductSteps
+pub mod TermSteps
+pub mod WedgeFunctionals

@@ -1,0 +1,4 @@
+pub mod Exterior
+pub mod ExteriorRing
+pub mod ExteriorSetting
+pub mod SetSums
