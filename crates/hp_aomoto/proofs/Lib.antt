@@ -1,0 +1,4 @@
+pub mod AomotoDimensions
+pub mod AomotoNumbers
+pub mod NbcCoordinates
+pub mod OneForms

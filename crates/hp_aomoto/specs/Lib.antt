@@ -1,0 +1,2 @@
+pub mod AomotoCohomology
+pub mod ProductMatrices

@@ -1,0 +1,3 @@
+//! The Aomoto complex of an arrangement: the Orlik-Solomon algebra under left multiplication by an element of degree one,
+//! and the dimensions of its cohomology.
+#![tactic(auto)]

@@ -1,0 +1,2 @@
+pub mod OrlikSolomon
+pub mod Straightening
