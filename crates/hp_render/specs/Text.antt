@@ -1,10 +1,11 @@
 -- The bytes of an answer and of a refusal's line.
-use Rattle.std.specs.Prelude.{ℕ, List, [], ◌∷◌, ◌++◌, map, flat_map, length, codes, decimal}
+use Rattle.std.specs.Prelude.{ℕ, ℤ, List, [], ◌∷◌, ◌++◌, map, flat_map, length, codes, decimal}
+use Rattle.std.specs.Fmt.{signed_decimal}
 use Rattle.hp_algebra.specs.Ring.{Numbering}
 use Rattle.hp_sets.specs.Sets.{Set}
 use Rattle.hp_sets.specs.declared.flat.Flat.{Flat}
 use Rattle.hp_render.specs.declared.answer.Answer.{Answer}
-use Rattle.hp_render.specs.declared.answer.Answer.TheVariants.{Hyperplanes, Point, Rank, Flats, Limit}
+use Rattle.hp_render.specs.declared.answer.Answer.TheVariants.{Hyperplanes, Point, Rank, Flats, Poincare, Characteristic, Triple, Circuits, Nbc, Limit}
 use Rattle.hp_render.specs.declared.answer.LimitKind.{LimitKind}
 use Rattle.hp_render.specs.declared.answer.LimitKind.TheVariants as limit
 use Rattle.hp_render.specs.declared.answer.AskWord.{AskWord}
@@ -59,9 +60,32 @@ rank_text name r = head asked.Rank name ++ codes " " ++ decimal r ++ 10 ∷ []
 abbrev pub flats_text : List ℕ → List Flat → List ℕ
 flats_text name fs = head asked.Flats name ++ codes " " ++ decimal (length fs) ++ 10 ∷ [] ++ flat_map flat_line fs
 
+-- the line of a set
+abbrev pub set_line : Set → List ℕ
+set_line s = set_text s ++ 10 ∷ []
+
+-- how many sets behind the head, and a line for each
+abbrev pub sets_text : AskWord → List ℕ → List Set → List ℕ
+sets_text word name sets = head word name ++ codes " " ++ decimal (length sets) ++ 10 ∷ [] ++ flat_map set_line sets
+
+-- the coefficients of a polynomial, to the end of the line
+abbrev pub coefficients : List ℤ → List ℕ
+coefficients cs = behind_spaces (map signed_decimal cs) ++ 10 ∷ []
+
+-- the coefficients behind the head
+abbrev pub polynomial_text : AskWord → List ℕ → List ℤ → List ℕ
+polynomial_text word name cs = head word name ++ coefficients cs
+
+-- the head, and a line for each of three polynomials
+abbrev pub triple_text : List ℕ → List ℤ → List ℤ → List ℤ → List ℕ
+triple_text name whole deleted restricted =
+    head asked.Triple name ++ 10 ∷ [] ++ codes "whole:" ++ coefficients whole ++ codes "deleted:" ++ coefficients deleted ++ codes "restricted:" ++ coefficients restricted
+
 -- the word of a limit
 abbrev pub limit_word : LimitKind → List ℕ
 limit_word limit.Flats = codes "flats"
+limit_word limit.Circuits = codes "circuits"
+limit_word limit.Nbc = codes "nbc"
 
 -- the limit behind the head of what was asked
 abbrev pub limit_text : List ℕ → AskWord → LimitKind → List ℕ
@@ -90,6 +114,11 @@ module _ {K : Type 0} (numbers : Numbering K) where
   answer_text name (Point x) = point_text name x
   answer_text name (Rank r) = rank_text name r
   answer_text name (Flats fs) = flats_text name fs
+  answer_text name (Poincare cs) = polynomial_text asked.Poincare name cs
+  answer_text name (Characteristic cs) = polynomial_text asked.Characteristic name cs
+  answer_text name (Triple whole deleted restricted) = triple_text name whole deleted restricted
+  answer_text name (Circuits sets) = sets_text asked.Circuits name sets
+  answer_text name (Nbc sets) = sets_text asked.Nbc name sets
   answer_text name (Limit word kind) = limit_text name word kind
 
 abbrev pub refusal_words : Refusal → List ℕ

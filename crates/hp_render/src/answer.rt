@@ -1,7 +1,7 @@
 //! What a question may be answered.
 
 use hp_algebra::List;
-use hp_sets::Flat;
+use hp_sets::{Flat, HSet};
 
 /// The word of a question.
 #[derive(Clone, Copy, Debug, PartialEq, Eq)]
@@ -27,19 +27,41 @@ pub enum AskWord {
 #[derive(Clone, Copy, Debug, PartialEq, Eq)]
 pub enum LimitKind {
     Flats,
+    Circuits,
+    Nbc,
 }
 
 /// An answer about an arrangement over the field `K`.
 #[derive(Drop)]
 pub enum Answer<K> {
     /// The dimension, and the coefficients of each form.
-    Hyperplanes { dim: u32, forms: List<List<K>> },
+    Hyperplanes {
+        dim: u32,
+        forms: List<List<K>>,
+    },
     /// The coordinates of a point.
     Point(List<K>),
     /// The rank of all hyperplanes.
     Rank(u32),
     /// Flats with their ranks.
     Flats(List<Flat>),
+    /// The coefficients of the Poincaré polynomial, from degree 0.
+    Poincare(List<i64>),
+    /// The coefficients of the characteristic polynomial, from degree 0.
+    Characteristic(List<i64>),
+    /// The coefficients of the Poincaré polynomials of an arrangement, of its deletion and of its restriction.
+    Triple {
+        whole: List<i64>,
+        deleted: List<i64>,
+        restricted: List<i64>,
+    },
+    /// Sets of hyperplanes: the circuits.
+    Circuits(List<HSet>),
+    /// Sets of hyperplanes: those that contain no broken circuit.
+    Nbc(List<HSet>),
     /// The question that was asked met this limit.
-    Limit { asked: AskWord, kind: LimitKind },
+    Limit {
+        asked: AskWord,
+        kind: LimitKind,
+    },
 }

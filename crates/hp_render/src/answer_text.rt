@@ -3,10 +3,12 @@
 ghost use Rattle.std.specs.Prelude.{◌≡◌, ◌++◌, flat_map, IfOk, OnOk, OnErr};
 ghost use Rattle.hp_render.specs.Text.{answer_text, elements_line, hyperplanes_text, point_text, rank_text};
 
-use crate::answer::Answer;
+use crate::answer::{Answer, AskWord};
 use crate::flat_text::flats_text;
 use crate::limit_text::limit_text;
 use crate::numbers::{push_behind_spaces, push_spaced};
+use crate::polynomial_text::{polynomial_text, triple_text};
+use crate::set_text::sets_text;
 use hp_algebra::{FiniteField, List, NoMem};
 use hp_script::Name;
 use itoa::Buffer;
@@ -35,6 +37,23 @@ fn text_of<K: FiniteField>(alloc: Global, answer: &Answer<K>, name: &Name) -> Re
         Answer::Point(point) => point_text(alloc, name, point.as_slice()),
         Answer::Rank(rank) => rank_text(alloc, name, *rank),
         Answer::Flats(flats) => flats_text(alloc, name, flats.as_slice()),
+        Answer::Poincare(pi) => polynomial_text(alloc, AskWord::Poincare, name, pi.as_slice()),
+        Answer::Characteristic(chi) => {
+            polynomial_text(alloc, AskWord::Characteristic, name, chi.as_slice())
+        }
+        Answer::Triple {
+            whole,
+            deleted,
+            restricted,
+        } => triple_text(
+            alloc,
+            name,
+            whole.as_slice(),
+            deleted.as_slice(),
+            restricted.as_slice(),
+        ),
+        Answer::Circuits(sets) => sets_text(alloc, AskWord::Circuits, name, sets.as_slice()),
+        Answer::Nbc(sets) => sets_text(alloc, AskWord::Nbc, name, sets.as_slice()),
         Answer::Limit { asked, kind } => limit_text(alloc, name, *asked, *kind),
     }
 }

@@ -1,11 +1,12 @@
 //! The text of flats.
 
-ghost use Rattle.std.specs.Prelude.{◌≡◌, ◌++◌, ◌<◌, [], ◌∷◌, flat_map, map, drop, length, decimal, slice_index_or, IfOk, OnOk};
-ghost use Rattle.hp_render.specs.Text.{behind_spaces, flat_line, flats_text, set_text, spaced};
+ghost use Rattle.std.specs.Prelude.{◌≡◌, ◌++◌, flat_map, IfOk, OnOk};
+ghost use Rattle.hp_render.specs.Text.{flat_line, flats_text};
 
+use crate::set_text::push_set;
 use hp_algebra::NoMem;
 use hp_script::Name;
-use hp_sets::{Flat, HSet};
+use hp_sets::Flat;
 use itoa::Buffer;
 use std::alloc::Global;
 
@@ -43,54 +44,4 @@ fn push_flat(flat: Flat, text: &mut Vec<u8>) -> Result<(), NoMem>
     push_set(flat.set, text)?;
     text.extend_from_slice(b"\n")?;
     Ok(())
-}
-
-/// Appends a set: its members between braces.
-pub fn push_set(set: HSet, text: &mut Vec<u8>) -> Result<(), NoMem>
-    ensures { OnOk result (text.new.items ≡ text.old.items ++ set_text set) }
-{
-    text.extend_from_slice(b"{")?;
-    push_members(set, text)?;
-    text.extend_from_slice(b"}")?;
-    Ok(())
-}
-
-/// Appends the members of a set in rising order, with a space between each two.
-fn push_members(set: HSet, text: &mut Vec<u8>) -> Result<(), NoMem>
-    ensures { OnOk result (text.new.items ≡ text.old.items ++ spaced (map decimal set)) }
-{
-    match set.least() {
-        None => Ok(()),
-        Some(first) => {
-            let mut buffer = Buffer::new();
-            text.extend_from_slice(buffer.format(first).as_bytes())?;
-            push_later_members(set, text)
-        }
-    }
-}
-
-/// Appends the members of a set but the least, with a space before each.
-fn push_later_members(set: HSet, text: &mut Vec<u8>) -> Result<(), NoMem>
-    ensures { OnOk result (text.new.items ≡ text.old.items ++ behind_spaces (map decimal (drop 1 set))) }
-{
-    for k in 1..set.len() {
-        push_member(set, k, text)?;
-    }
-    Ok(())
-}
-
-/// Appends a space and the member with exactly k smaller members.
-fn push_member(set: HSet, k: u32, text: &mut Vec<u8>) -> Result<(), NoMem>
-    requires { k < length set }
-    ensures { OnOk result (text.new.items ≡ text.old.items ++ behind_spaces (decimal (slice_index_or set k 0) ∷ [])) }
-{
-    match set.nth(k) {
-        None => Ok(()),
-        Some(i) => {
-            let mut buffer = Buffer::new();
-            text.extend_from_slice(b" ")?;
-            text.extend_from_slice(buffer.format(i).as_bytes())?;
-            Ok(())
-        }
-    }
 }

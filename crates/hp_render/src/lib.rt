@@ -6,10 +6,10 @@ mod answer_text;
 mod flat_text;
 mod limit_text;
 mod numbers;
+mod polynomial_text;
 mod refusal;
 mod refusal_text;
-#[cfg(test)]
-mod tests;
+mod set_text;
 
 pub use answer::{Answer, AskWord, LimitKind};
 pub use answer_text::render;

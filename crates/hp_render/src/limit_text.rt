@@ -27,7 +27,7 @@ pub fn limit_text(
 }
 
 /// The word of a question.
-fn word_of(word: AskWord) -> &'static [u8]
+pub fn word_of(word: AskWord) -> &'static [u8]
     ensures { result.now ≡ word_text word }
 {
     match word {
@@ -55,5 +55,7 @@ fn limit_of(kind: LimitKind) -> &'static [u8]
 {
     match kind {
         LimitKind::Flats => b"flats",
+        LimitKind::Circuits => b"circuits",
+        LimitKind::Nbc => b"nbc",
     }
 }

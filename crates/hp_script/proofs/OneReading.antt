@@ -176,18 +176,12 @@ some_reading script = elim (reading_from 1 (lines script)) [
     less : (n : ℕ) → n + 1 - 1 ≡ n
     less n = omega arith
 
-    one : (n : ℕ) → 1 ≤ n + 1
-    one n = omega arith
-
-    fewer : (k n : ℕ) → k + 1 < n + 1 → k < n
-    fewer k n i = omega arith
-
     fault : (f : FirstRefused (lines script)) → HasSyntaxFault script (f.k + 1) f.column
     fault f = record {
       text = f.text;
       at = ap (slice_get (lines script)) (less f.k) ∙ f.at;
-      counted = one f.k;
-      before = λ k l i e. f.before k l (fewer k f.k i) e;
+      counted = omega arith;
+      before = λ k l i e. f.before k l (omega (arith, i)) e;
       column_is = f.refused;
     }
 

@@ -4,6 +4,7 @@ use Rattle.std.specs.List.{flat_map, filter_map, All}
 use Rattle.std.specs.List.{cons_option}
 use Rattle.std.proofs.lemmas.List.{length-append, length-map}
 use Rattle.std.proofs.lemmas.List.Elements.{All-nil, All-cons}
+use Rattle.hp_script.specs.Script.{most_bytes}
 use Rattle.hp_script.specs.declared.token.Token.{Token}
 use Rattle.hp_script.specs.declared.token.Token.TheVariants.{Word, Number, Symbol}
 use Rattle.hp_script.specs.declared.command.Command.{Command}
@@ -19,7 +20,8 @@ use Rattle.hp_script.specs.Grammar.{Several, Int, plain, negated, int_text, ints
 use Rattle.hp_script.specs.Lists.{IsShort, HasShortRows, HasShortFactors, IsShortOption, BuildIsShort, QuestionIsShort, CommandIsShort}
 
 -- items of one token or more
-items : {T : Type 0} (text : T → List Token) → ((t : T) → 1 ≤ length (text t)) → (ts : List T) → length ts ≤ length (flat_map text ts)
+items : {T : Type 0} (text : T → List Token) → ((t : T) → 1 ≤ length (text t)) → (ts : List T)
+    → length ts ≤ length (flat_map text ts)
 items text some [] = lemma
   where
     lemma : 0 ≤ 0
@@ -29,11 +31,14 @@ items text some (t ∷ ts) = subst (λ n. suc (length ts) ≤ n) (sym (length-ap
     one_more : (n a b : ℕ) → 1 ≤ a → n ≤ b → suc n ≤ a + b
     one_more n a b h i = omega arith
 
-mapped_items : {T V : Type 0} (text : T → List Token) (value : T → V) → ((t : T) → 1 ≤ length (text t)) → (ts : List T) → length (map value ts) ≤ length (flat_map text ts)
+mapped_items : {T V : Type 0} (text : T → List Token) (value : T → V) → ((t : T) → 1 ≤ length (text t)) → (ts : List T)
+    → length (map value ts) ≤ length (flat_map text ts)
 mapped_items text value some ts = subst (λ n. n ≤ length (flat_map text ts)) (sym (length-map ts value)) (items text some ts)
 
 -- each item of a list is within the text of all
-each : {T V : Type 0} (text : T → List Token) (value : T → V) (P : V → Type 0) (m : ℕ) → ((t : T) → length (text t) < m → P (value t)) → (ts : List T) → length (flat_map text ts) < m → All P (map value ts)
+each : {T V : Type 0} (text : T → List Token) (value : T → V) (P : V → Type 0) (m : ℕ)
+    → ((t : T) → length (text t) < m → P (value t)) → (ts : List T) → length (flat_map text ts) < m
+    → All P (map value ts)
 each text value P m so [] h = All-nil P
 each text value P m so (t ∷ ts) h =
     let sum : length (text t) + length (flat_map text ts) < m = subst (λ n. n < m) (length-append (text t) (flat_map text ts)) h in
@@ -140,7 +145,8 @@ length_filter_map {X = X} {Y = Y} f (x ∷ xs) = by_option (f x) (filter_map f x
     by_option None ys h = over (length ys) (length xs) h
     by_option (Some y) ys h = more (length ys) (length xs) h
 
-product_short : (minus : Bool) (p : Several Factor) → length (factors_text p) < 4294967295 → HasShortFactors (product_value minus p)
+product_short : (minus : Bool) (p : Several Factor) → length (factors_text p) < 4294967295
+    → HasShortFactors (product_value minus p)
 product_short minus p h = (
   below (length (filter_map coefficient_of (p.first ∷ p.others))) (suc (length p.others)) 4294967295 (length_filter_map coefficient_of (p.first ∷ p.others)) all,
   below (length (filter_map generator_of (p.first ∷ p.others))) (suc (length p.others)) 4294967295 (length_filter_map generator_of (p.first ∷ p.others)) all,
@@ -152,7 +158,8 @@ product_short minus p h = (
     all : suc (length p.others) < 4294967295
     all = count (length (flat_map later_factor_text p.others)) (length p.others) h (items later_factor_text (λ f. some_more 1) p.others)
 
-expression_short : (e : Expression) → length (expression_text e) < 4294967295 → IsShort (expression_value e) × All HasShortFactors (expression_value e)
+expression_short : (e : Expression) → length (expression_text e) < 4294967295
+    → IsShort (expression_value e) × All HasShortFactors (expression_value e)
 expression_short e h =
     let m : ℕ = 4294967295 in
     let front : length (lead_text e.minus ++ factors_text e.first) < m = within_front (lead_text e.minus ++ factors_text e.first) (flat_map later_text e.others) m h in
@@ -169,7 +176,8 @@ expression_short e h =
     count a b n c t k e f h i = omega arith
 
 -- builds, questions and commands
-build_short : (a : Shape) (x : ShapeRest a) → length (shape_rest_text a x) < 4294967295 → BuildIsShort (shape_rest_value a x)
+build_short : (a : Shape) (x : ShapeRest a) → length (shape_rest_text a x) < 4294967295
+    → BuildIsShort (shape_rest_value a x)
 build_short shape.Forms x h = rows_short x.1 (within_tail (Number x.0) (rows_text x.1) 4294967295 h)
 build_short shape.Cone x h = rows_short x.1 (within_tail (Number x.0) (rows_text x.1) 4294967295 h)
 build_short shape.TypeA x h = tt
@@ -180,7 +188,8 @@ build_short shape.Graphic x h = edges_short x.1 (within_tail (Number x.0) (edges
 build_short shape.Delete x h = tt
 build_short shape.Restrict x h = tt
 
-question_short : (t : Topic) (x : TopicRest t) → length (topic_rest_text t x) < 4294967295 → QuestionIsShort (question_value t x)
+question_short : (t : Topic) (x : TopicRest t) → length (topic_rest_text t x) < 4294967295
+    → QuestionIsShort (question_value t x)
 question_short topic.Hyperplanes x h = tt
 question_short topic.Point x h = tt
 question_short topic.Rank x h = tt
@@ -245,8 +254,9 @@ tokens_few (suc bound) column (b ∷ bs) =
     by_test false true xs h ys i = over (length xs) bound h
     by_test false false xs h ys i = more (length ys) bound i
 
-pub line_short : (line : List ℕ) (c : Command) → length line ≤ 1048576 → Spells (line_tokens line) c → CommandIsShort c
+pub line_short : (line : List ℕ) (c : Command) → length line ≤ most_bytes → Spells (line_tokens line) c
+    → CommandIsShort c
 line_short line c h s = spelled_short (line_tokens line) c s (lemma (length (line_tokens line)) (length (tokens line)) (length line) (length-map (tokens line) (λ p. p.token)) (tokens_few (length line) 1 line) h)
   where
-    lemma : (a b n : ℕ) → a ≡ b → b ≤ n → n ≤ 1048576 → a < 4294967295
+    lemma : (a b n : ℕ) → a ≡ b → b ≤ n → n ≤ most_bytes → a < 4294967295
     lemma a b n e h i = omega arith

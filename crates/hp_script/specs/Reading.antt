@@ -1,5 +1,6 @@
 -- What the private functions that read tokens from left to right answer. A fault is how many tokens are left where it comes, the bad one among them.
-use Rattle.std.specs.Prelude.{◌≡◌, ◌⊎◌, ℕ, zero, suc, ◌==◌, ◌-◌, ◌≤◌, Bool, true, false, List, [], ◌∷◌, ◌++◌, length, ℤ, pos, neg_ℤ, codes, bytes_eq, filter_map, Option, Some, None, Result, Ok, Err}
+use Rattle.std.specs.Prelude.{◌≡◌, ◌⊎◌, ℕ, zero, suc, ◌==◌, ◌-◌, ◌≤◌, ◌<◌, Bool, true, false, List, [], ◌∷◌, ◌++◌, length, ℤ, pos, neg_ℤ, codes, bytes_eq, filter_map, Option, Some, None, Result, Ok, Err, IfOk}
+use Rattle.std.specs.Borrow.{Bor}
 use Rattle.hp_script.specs.Tokens.{number_of, line_tokens}
 use Rattle.hp_script.specs.Grammar.{limit_value, is_index, Spells, StopsAt}
 use Rattle.hp_script.specs.Script.{IsRefusedAt}
@@ -44,6 +45,17 @@ Fails (At n) read = read ≡ Err n
 abbrev pub Gives : {X Y : Type 0} → (X → Y) → Result X Fault → Result Y ℕ → Type 0
 Gives view (Ok x) read = read ≡ Ok (view x)
 Gives view (Err e) read = Fails e read
+
+-- The same of a function that returned a value, seen by view, and the tokens after it.
+abbrev pub ReadsBy : {X V : Type 0} → (X → V) → Result (X × Bor (List Token)) Fault → Result (V × List Token) ℕ → Type 0
+ReadsBy view result read = Gives (λ x. (view x.0, x.1.now)) result read
+
+abbrev pub Reads : {V : Type 0} → Result (V × Bor (List Token)) Fault → Result (V × List Token) ℕ → Type 0
+Reads result read = ReadsBy (λ v. v) result read
+
+-- fewer tokens are left than there were
+abbrev pub LeavesFewer : {X : Type 0} → Result (X × Bor (List Token)) Fault → List Token → Type 0
+LeavesFewer result ts = IfOk result (λ x. length x.1.now < length ts)
 
 -- a value and the tokens after it
 abbrev pub Reader : Type 0 → Type 0

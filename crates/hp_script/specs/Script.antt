@@ -5,8 +5,13 @@ use Rattle.hp_script.specs.declared.command.Command.{Command}
 use Rattle.hp_script.specs.declared.command.Line.{Line}
 use Rattle.hp_script.specs.declared.command.ScriptFault.{ScriptFault}
 use Rattle.hp_script.specs.declared.command.ScriptFault.TheVariants.{Syntax, Memory}
+use Rattle.hp_script.specs.declared.script.TheConstants.{MAX_BYTES}
 use Rattle.hp_script.specs.Tokens.{Placed, tokens, line_tokens}
 use Rattle.hp_script.specs.Grammar.{Spells, StopsAt}
+
+-- a script has at most so many bytes
+abbrev pub most_bytes : ℕ
+most_bytes = MAX_BYTES
 
 -- the lines of a script: what stands between line feeds
 abbrev pub lines : List ℕ → List (List ℕ)

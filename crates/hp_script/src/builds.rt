@@ -1,7 +1,7 @@
 //! What a `let` builds.
 
 ghost use Rattle.std.specs.Prelude.{◌≡◌};
-ghost use Rattle.hp_script.specs.Reading.{Gives, shape_rest_at, build_at};
+ghost use Rattle.hp_script.specs.Reading.{Reads, shape_rest_at, build_at};
 
 use crate::command::Build;
 use crate::fault::Fault;
@@ -11,8 +11,9 @@ use crate::token::Token;
 use crate::words::{Shape, shape_word};
 use std::alloc::Global;
 
+/// What follows the word of a build of that shape: numbers, rows, edges or a name.
 fn shape_rest(alloc: Global, shape: Shape, tokens: &[Token]) -> Result<(Build, &[Token]), Fault>
-    ensures given { Gives (λ x. (x.0, x.1.now)) result (shape_rest_at shape tokens.now) }
+    ensures given { Reads result (shape_rest_at shape tokens.now) }
 {
     match shape {
         Shape::Forms => {
@@ -61,7 +62,7 @@ fn shape_rest(alloc: Global, shape: Shape, tokens: &[Token]) -> Result<(Build, &
 
 /// A build.
 pub fn build(alloc: Global, tokens: &[Token]) -> Result<(Build, &[Token]), Fault>
-    ensures given { Gives (λ x. (x.0, x.1.now)) result (build_at tokens.now) }
+    ensures given { Reads result (build_at tokens.now) }
 {
     let (shape, rest) = shape_word(tokens)?;
     shape_rest(alloc, shape, rest)

@@ -105,6 +105,7 @@ pub enum ScriptFault {
 impl From<AllocError> for ScriptFault {
     ghost from_gives = { λ _ e. e ≡ Memory };
 
+    /// Want of memory.
     fn from(_refusal: AllocError) -> ScriptFault {
         ScriptFault::Memory
     }
@@ -113,6 +114,7 @@ impl From<AllocError> for ScriptFault {
 impl<T: Drop> From<AllocFailed<T>> for ScriptFault {
     ghost from_gives = { λ _ e. e ≡ Memory };
 
+    /// Want of memory.
     fn from(_refusal: AllocFailed<T>) -> ScriptFault {
         ScriptFault::Memory
     }

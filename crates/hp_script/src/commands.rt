@@ -2,7 +2,7 @@
 
 ghost use Rattle.std.specs.Prelude.{◌≡◌, IfOk, IfErr};
 ghost use Rattle.hp_script.specs.Grammar.{Spells};
-ghost use Rattle.hp_script.specs.Reading.{Gives, question_at, rest_at, command_at, StopsWith};
+ghost use Rattle.hp_script.specs.Reading.{Gives, Reads, question_at, rest_at, command_at, StopsWith};
 
 use crate::builds::build;
 use crate::command::{Command, Question};
@@ -13,8 +13,9 @@ use crate::token::Token;
 use crate::words::{Keyword, Limit, Topic, first_word, limit_word};
 use std::alloc::Global;
 
+/// What follows the name in a question of that topic.
 fn question(alloc: Global, topic: Topic, tokens: &[Token]) -> Result<(Question, &[Token]), Fault>
-    ensures given { Gives (λ x. (x.0, x.1.now)) result (question_at topic tokens.now) }
+    ensures given { Reads result (question_at topic tokens.now) }
 {
     match topic {
         Topic::Hyperplanes => Ok((Question::Hyperplanes, tokens)),
@@ -56,8 +57,9 @@ fn question(alloc: Global, topic: Topic, tokens: &[Token]) -> Result<(Question, 
     }
 }
 
+/// What follows the word that a command begins with.
 fn rest_of(alloc: Global, keyword: Keyword, tokens: &[Token]) -> Result<(Command, &[Token]), Fault>
-    ensures given { Gives (λ x. (x.0, x.1.now)) result (rest_at keyword tokens.now) }
+    ensures given { Reads result (rest_at keyword tokens.now) }
 {
     match keyword {
         Keyword::Field => {
@@ -86,6 +88,7 @@ fn rest_of(alloc: Global, keyword: Keyword, tokens: &[Token]) -> Result<(Command
     }
 }
 
+/// The command of all the tokens. It is refused at the first token that is left behind a command.
 fn read(alloc: Global, tokens: &[Token]) -> Result<Command, Fault>
     ensures given { Gives (λ c. c) result (command_at tokens.now) }
 {

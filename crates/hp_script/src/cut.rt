@@ -7,6 +7,7 @@ ghost use Rattle.hp_script.specs.Cut.{is_more, starts_blank, text_at, IsText, to
 
 use crate::digits::{is_digit, number_of};
 use crate::name::Name;
+use crate::script::MAX_BYTES;
 use crate::token::{Number, Token};
 use hp_algebra::NoMem;
 use std::alloc::Global;
@@ -18,30 +19,35 @@ pub struct Place {
     pub after: u32,
 }
 
+/// Whether the byte is A to Z or a to z.
 fn is_letter(b: u8) -> bool
     ensures { result ≡ is_letter b }
 {
     (65 <= b && b <= 90) || (97 <= b && b <= 122)
 }
 
+/// Whether a word goes on with the byte: a letter, a digit or `_`.
 fn goes_on_word(b: u8) -> bool
     ensures { result ≡ goes_on_word b }
 {
     is_letter(b) || is_digit(b) || b == b'_'
 }
 
+/// Whether the byte is a space, a tab or a carriage return.
 fn is_blank(b: u8) -> bool
     ensures { result ≡ is_blank b }
 {
     b == b' ' || b == b'\t' || b == b'\r'
 }
 
+/// Whether the byte is one of `[`, `]`, `,`, `=`, `+`, `-`, `*`.
 fn is_mark(b: u8) -> bool
     ensures { result ≡ is_mark b }
 {
     b == b'[' || b == b']' || b == b',' || b == b'=' || b == b'+' || b == b'-' || b == b'*'
 }
 
+/// Whether there is a byte ahead that is not in a comment.
 fn is_more(bytes: &[u8]) -> bool
     ensures { result ≡ is_more bytes.now }
 {
@@ -51,6 +57,7 @@ fn is_more(bytes: &[u8]) -> bool
     }
 }
 
+/// Whether the first byte is a blank.
 fn starts_blank(bytes: &[u8]) -> bool
     ensures { result ≡ starts_blank bytes.now }
 {
@@ -60,6 +67,7 @@ fn starts_blank(bytes: &[u8]) -> bool
     }
 }
 
+/// The bytes behind the first, if there is one.
 fn after_first(bytes: &[u8]) -> &[u8]
     ensures { result.now ≡ drop 1 bytes.now }
 {
@@ -69,6 +77,7 @@ fn after_first(bytes: &[u8]) -> &[u8]
     }
 }
 
+/// How many bytes at the front go on a word.
 fn word_len(bytes: &[u8]) -> usize
     ensures value { result ≡ length (take_while goes_on_word bytes.now) }
     ensures within { result ≤ length bytes.now }
@@ -76,6 +85,7 @@ fn word_len(bytes: &[u8]) -> usize
     bytes.iter().take_while(|c| goes_on_word(**c)).count()
 }
 
+/// How many bytes at the front are digits.
 fn digits_len(bytes: &[u8]) -> usize
     ensures value { result ≡ length (take_while is_digit bytes.now) }
     ensures within { result ≤ length bytes.now }
@@ -83,6 +93,7 @@ fn digits_len(bytes: &[u8]) -> usize
     bytes.iter().take_while(|c| is_digit(**c)).count()
 }
 
+/// How many bytes the first token has, where the bytes begin with one.
 fn text_len(bytes: &[u8]) -> usize
     ensures value { result ≡ length (text_at bytes.now) }
     ensures within { result ≤ length bytes.now }
@@ -101,6 +112,7 @@ fn text_len(bytes: &[u8]) -> usize
     }
 }
 
+/// The token of a run of digits. One of more than ten fits no place.
 fn digits_token(digits: &[u8]) -> Token
     requires { list_all is_digit digits.now ≡ true }
     ensures { result ≡ digits_token digits.now }
@@ -112,12 +124,14 @@ fn digits_token(digits: &[u8]) -> Token
     }
 }
 
+/// The bytes as a name.
 fn name_of(alloc: Global, text: &[u8]) -> Result<Name, NoMem>
     ensures { IfOk result (λ n. n ≡ text.now) }
 {
     Ok(Name::new(Vec::from_slice(alloc, text)?))
 }
 
+/// The token with that text, by its first byte.
 fn token_of(alloc: Global, text: &[u8]) -> Result<Token, NoMem>
     requires { IsText text.now }
     ensures { IfOk result (λ t. t ≡ token_in text.now) }
@@ -140,7 +154,7 @@ fn token_of(alloc: Global, text: &[u8]) -> Result<Token, NoMem>
 
 /// The tokens of a line, and their places.
 pub fn cut(alloc: Global, line: &[u8]) -> Result<(Vec<Token>, Vec<Place>), NoMem>
-    requires { length line.now ≤ 1048576 }
+    requires { length line.now ≤ MAX_BYTES }
     ensures { IfOk result (λ x. IsCut line.now x.0.items x.1.items) }
 {
     let mut tokens = Vec::new(alloc);

@@ -1,7 +1,7 @@
 //! Sums of products of numbers and generators.
 
 ghost use Rattle.std.specs.Prelude.{◌≡◌, ◌<◌, ◌≤◌, length, IfOk, Some, None, filter_map};
-ghost use Rattle.hp_script.specs.Reading.{Gives, starts, is_sign, factor_at, later_factor_at, later_factors_at, factors_at, later_at, laters_at, lead_at, expression_at, with_front, generator_in, index_in, sign_in, token_at, product_from, number_of_factor, index_of_factor};
+ghost use Rattle.hp_script.specs.Reading.{Reads, ReadsBy, LeavesFewer, starts, is_sign, factor_at, later_factor_at, later_factors_at, factors_at, later_at, laters_at, lead_at, expression_at, with_front, generator_in, index_in, sign_in, token_at, product_from, number_of_factor, index_of_factor};
 
 use crate::command::Product;
 use crate::digits::{is_index, number_of};
@@ -19,6 +19,7 @@ pub enum Factor {
 }
 
 impl Factor {
+    /// The number, of a factor that is one.
     fn number(self) -> Option<u64>
         ensures { result ≡ number_of_factor self }
     {
@@ -28,6 +29,7 @@ impl Factor {
         }
     }
 
+    /// The index, of a factor that is a generator.
     fn index(self) -> Option<u64>
         ensures { result ≡ index_of_factor self }
     {
@@ -38,6 +40,7 @@ impl Factor {
     }
 }
 
+/// The number that one to ten digits spell.
 fn index(digits: &[u8]) -> Option<u64>
     ensures { result ≡ index_in digits.now }
 {
@@ -48,6 +51,7 @@ fn index(digits: &[u8]) -> Option<u64>
     }
 }
 
+/// The generator that a word names: the letter `e` and its index.
 fn generator(word: &[u8]) -> Option<Factor>
     ensures { result ≡ generator_in word.now }
 {
@@ -60,9 +64,10 @@ fn generator(word: &[u8]) -> Option<Factor>
     }
 }
 
+/// A factor.
 fn one_factor(tokens: &[Token]) -> Result<(Factor, &[Token]), Fault>
-    ensures given { Gives (λ x. (x.0, x.1.now)) result (factor_at tokens.now) }
-    ensures shorter { IfOk result (λ x. length x.1.now < length tokens.now) }
+    ensures given { Reads result (factor_at tokens.now) }
+    ensures shorter { LeavesFewer result tokens.now }
 {
     match tokens {
         [Token::Number(first), rest @ ..] => Ok((Factor::Coefficient(first.value()), rest)),
@@ -74,19 +79,21 @@ fn one_factor(tokens: &[Token]) -> Result<(Factor, &[Token]), Fault>
     }
 }
 
+/// `*` and a factor.
 fn later_factor(tokens: &[Token]) -> Result<(Factor, &[Token]), Fault>
-    ensures given { Gives (λ x. (x.0, x.1.now)) result (later_factor_at tokens.now) }
-    ensures shorter { IfOk result (λ x. length x.1.now < length tokens.now) }
+    ensures given { Reads result (later_factor_at tokens.now) }
+    ensures shorter { LeavesFewer result tokens.now }
 {
     let rest = symbol(tokens, b'*')?;
     one_factor(rest)
 }
 
+/// The factors before, and those that follow behind `*`.
 fn later_factors(
     mut factors: Vec<Factor>,
     tokens: &[Token],
 ) -> Result<(Vec<Factor>, &[Token]), Fault>
-    ensures given { Gives (λ x. (x.0.items, x.1.now)) result (with_front factors.items (later_factors_at tokens.now)) }
+    ensures given { ReadsBy (λ v. v.items) result (with_front factors.items (later_factors_at tokens.now)) }
     ensures no_longer { IfOk result (λ x. length x.1.now ≤ length tokens.now) }
 {
     let mut rest = tokens;
@@ -98,9 +105,10 @@ fn later_factors(
     Ok((factors, rest))
 }
 
+/// Factors with `*` between them, one or more.
 fn factors(alloc: Global, tokens: &[Token]) -> Result<(Vec<Factor>, &[Token]), Fault>
-    ensures given { Gives (λ x. (x.0.items, x.1.now)) result (factors_at tokens.now) }
-    ensures shorter { IfOk result (λ x. length x.1.now < length tokens.now) }
+    ensures given { ReadsBy (λ v. v.items) result (factors_at tokens.now) }
+    ensures shorter { LeavesFewer result tokens.now }
 {
     let (first, rest) = one_factor(tokens)?;
     let mut factors = Vec::new(alloc);
@@ -108,18 +116,21 @@ fn factors(alloc: Global, tokens: &[Token]) -> Result<(Vec<Factor>, &[Token]), F
     later_factors(factors, rest)
 }
 
+/// The numbers among the factors, in order.
 fn numbers_of(alloc: Global, factors: &[Factor]) -> Result<Vec<u64>, NoMem>
     ensures { IfOk result (λ v. v.items ≡ filter_map number_of_factor factors.now) }
 {
     Ok(factors.iter().filter_map(|f| f.number()).collect(alloc)?)
 }
 
+/// The indices of the generators among the factors, in order.
 fn indices_of(alloc: Global, factors: &[Factor]) -> Result<Vec<u64>, NoMem>
     ensures { IfOk result (λ v. v.items ≡ filter_map index_of_factor factors.now) }
 {
     Ok(factors.iter().filter_map(|f| f.index()).collect(alloc)?)
 }
 
+/// The product of the factors, negated or not.
 fn product_of(alloc: Global, negative: bool, factors: &[Factor]) -> Result<Product, NoMem>
     ensures { IfOk result (λ p. p ≡ product_from negative factors.now) }
 {
@@ -132,6 +143,7 @@ fn product_of(alloc: Global, negative: bool, factors: &[Factor]) -> Result<Produ
     })
 }
 
+/// Whether the first token is `+` or `-`.
 fn starts_sign(tokens: &[Token]) -> bool
     ensures { result ≡ starts is_sign tokens.now }
 {
@@ -141,9 +153,10 @@ fn starts_sign(tokens: &[Token]) -> bool
     }
 }
 
+/// `+` or `-`: whether it is `-`.
 fn sign(tokens: &[Token]) -> Result<(bool, &[Token]), Fault>
-    ensures given { Gives (λ x. (x.0, x.1.now)) result (token_at sign_in tokens.now) }
-    ensures shorter { IfOk result (λ x. length x.1.now < length tokens.now) }
+    ensures given { Reads result (token_at sign_in tokens.now) }
+    ensures shorter { LeavesFewer result tokens.now }
 {
     match tokens {
         [Token::Symbol(b'-'), rest @ ..] => Ok((true, rest)),
@@ -152,9 +165,10 @@ fn sign(tokens: &[Token]) -> Result<(bool, &[Token]), Fault>
     }
 }
 
+/// A sign, and a product that it negates or not.
 fn later_product(alloc: Global, tokens: &[Token]) -> Result<(Product, &[Token]), Fault>
-    ensures given { Gives (λ x. (x.0, x.1.now)) result (later_at tokens.now) }
-    ensures shorter { IfOk result (λ x. length x.1.now < length tokens.now) }
+    ensures given { Reads result (later_at tokens.now) }
+    ensures shorter { LeavesFewer result tokens.now }
 {
     let (negative, rest) = sign(tokens)?;
     let (factors, rest) = factors(alloc, rest)?;
@@ -162,12 +176,13 @@ fn later_product(alloc: Global, tokens: &[Token]) -> Result<(Product, &[Token]),
     Ok((product, rest))
 }
 
+/// The products before, and those that follow behind a sign.
 fn later_products(
     alloc: Global,
     mut products: Vec<Product>,
     tokens: &[Token],
 ) -> Result<(Vec<Product>, &[Token]), Fault>
-    ensures given { Gives (λ x. (x.0.items, x.1.now)) result (with_front products.items (laters_at tokens.now)) }
+    ensures given { ReadsBy (λ v. v.items) result (with_front products.items (laters_at tokens.now)) }
 {
     let mut rest = tokens;
     'more: while starts_sign(rest) {
@@ -178,8 +193,9 @@ fn later_products(
     Ok((products, rest))
 }
 
+/// Whether `-` stands before the first product; it need not.
 fn lead(tokens: &[Token]) -> Result<(bool, &[Token]), Fault>
-    ensures given { Gives (λ x. (x.0, x.1.now)) result (lead_at tokens.now) }
+    ensures given { Reads result (lead_at tokens.now) }
 {
     if begins(tokens, b'-') {
         let rest = symbol(tokens, b'-')?;
@@ -191,7 +207,7 @@ fn lead(tokens: &[Token]) -> Result<(bool, &[Token]), Fault>
 
 /// Products with `+` or `-` between them, and `-` before the first or not.
 pub fn expression(alloc: Global, tokens: &[Token]) -> Result<(List<Product>, &[Token]), Fault>
-    ensures given { Gives (λ x. (x.0, x.1.now)) result (expression_at tokens.now) }
+    ensures given { Reads result (expression_at tokens.now) }
 {
     let (negative, rest) = lead(tokens)?;
     let (factors, rest) = factors(alloc, rest)?;

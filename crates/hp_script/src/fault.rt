@@ -16,6 +16,7 @@ pub enum Fault {
 impl From<NoMem> for Fault {
     ghost from_gives = { λ _ e. e ≡ Memory };
 
+    /// Want of memory.
     fn from(_refusal: NoMem) -> Fault {
         Fault::Memory
     }
@@ -24,6 +25,7 @@ impl From<NoMem> for Fault {
 impl From<AllocError> for Fault {
     ghost from_gives = { λ _ e. e ≡ Memory };
 
+    /// Want of memory.
     fn from(_refusal: AllocError) -> Fault {
         Fault::Memory
     }
@@ -32,6 +34,7 @@ impl From<AllocError> for Fault {
 impl<T: Drop> From<AllocFailed<T>> for Fault {
     ghost from_gives = { λ _ e. e ≡ Memory };
 
+    /// Want of memory.
     fn from(_refusal: AllocFailed<T>) -> Fault {
         Fault::Memory
     }

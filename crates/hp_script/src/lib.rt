@@ -47,7 +47,4 @@ mod words;
 
 pub use command::{Build, Command, Line, Product, Question, ScriptFault};
 pub use name::{Name, Row};
-pub use script::parse;
-
-#[cfg(test)]
-mod tests;
+pub use script::{MAX_BYTES, parse};

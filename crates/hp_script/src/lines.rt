@@ -9,6 +9,7 @@ use crate::command::Command;
 use crate::commands::spelled;
 use crate::cut::{Place, cut};
 use crate::fault::{Fault, LineFault};
+use crate::script::MAX_BYTES;
 use std::alloc::Global;
 
 /// The column where so many tokens are left.
@@ -26,7 +27,7 @@ fn column(places: &[Place], left: usize) -> u32
 
 /// The command of a line, if it has tokens, or the column where the line is outside the grammar.
 pub fn line(alloc: Global, text: &[u8]) -> Result<Option<Command>, LineFault>
-    requires { length text.now ≤ 1048576 }
+    requires { length text.now ≤ MAX_BYTES }
     ensures command { IfOk result (λ c. IsLine text.now c) }
     ensures refused { IfErr result (λ e. IsRefused text.now e) }
     ensures short { IfOk result (λ c. IfSome c CommandIsShort) }

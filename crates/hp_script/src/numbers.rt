@@ -3,7 +3,7 @@
 //! Each function here and in the modules beside it reads from the front of the tokens, and answers what it read with the tokens after it.
 
 ghost use Rattle.std.specs.Prelude.{◌≡◌, ◌<◌, ◌≤◌, length, IfOk};
-ghost use Rattle.hp_script.specs.Reading.{Gives, starts, is_symbol, is_int, number_at, word_at, symbol_at, int_at, ints_at, list_at, optional_list_at, with_front};
+ghost use Rattle.hp_script.specs.Reading.{Gives, Reads, ReadsBy, LeavesFewer, starts, is_symbol, is_int, number_at, word_at, symbol_at, int_at, ints_at, list_at, optional_list_at, with_front};
 
 use crate::fault::Fault;
 use crate::name::{Name, Row};
@@ -33,8 +33,8 @@ pub fn symbol(tokens: &[Token], symbol: u8) -> Result<&[Token], Fault>
 
 /// A number.
 pub fn number(tokens: &[Token]) -> Result<(u64, &[Token]), Fault>
-    ensures given { Gives (λ x. (x.0, x.1.now)) result (number_at tokens.now) }
-    ensures shorter { IfOk result (λ x. length x.1.now < length tokens.now) }
+    ensures given { Reads result (number_at tokens.now) }
+    ensures shorter { LeavesFewer result tokens.now }
     ensures short { IfOk result (λ x. x.0 < 10000000000) }
 {
     match tokens {
@@ -45,7 +45,7 @@ pub fn number(tokens: &[Token]) -> Result<(u64, &[Token]), Fault>
 
 /// A word, as a name.
 pub fn word(alloc: Global, tokens: &[Token]) -> Result<(Name, &[Token]), Fault>
-    ensures given { Gives (λ x. (x.0, x.1.now)) result (word_at tokens.now) }
+    ensures given { Reads result (word_at tokens.now) }
 {
     match tokens {
         [Token::Word(first), rest @ ..] => {
@@ -58,8 +58,8 @@ pub fn word(alloc: Global, tokens: &[Token]) -> Result<(Name, &[Token]), Fault>
 
 /// A number, or `-` and a number.
 pub fn int(tokens: &[Token]) -> Result<(i64, &[Token]), Fault>
-    ensures given { Gives (λ x. (x.0, x.1.now)) result (int_at tokens.now) }
-    ensures shorter { IfOk result (λ x. length x.1.now < length tokens.now) }
+    ensures given { Reads result (int_at tokens.now) }
+    ensures shorter { LeavesFewer result tokens.now }
 {
     if begins(tokens, b'-') {
         let rest = symbol(tokens, b'-')?;
@@ -71,6 +71,7 @@ pub fn int(tokens: &[Token]) -> Result<(i64, &[Token]), Fault>
     }
 }
 
+/// Whether the first token is a number or `-`.
 fn starts_int(tokens: &[Token]) -> bool
     ensures { result ≡ starts is_int tokens.now }
 {
@@ -83,7 +84,7 @@ fn starts_int(tokens: &[Token]) -> bool
 
 /// The numbers before, and those that follow.
 pub fn ints(mut numbers: Vec<i64>, tokens: &[Token]) -> Result<(Vec<i64>, &[Token]), Fault>
-    ensures given { Gives (λ x. (x.0.items, x.1.now)) result (with_front numbers.items (ints_at tokens.now)) }
+    ensures given { ReadsBy (λ v. v.items) result (with_front numbers.items (ints_at tokens.now)) }
     ensures no_longer { IfOk result (λ x. length x.1.now ≤ length tokens.now) }
 {
     let mut rest = tokens;
@@ -97,7 +98,7 @@ pub fn ints(mut numbers: Vec<i64>, tokens: &[Token]) -> Result<(Vec<i64>, &[Toke
 
 /// A list of numbers in brackets.
 pub fn list(alloc: Global, tokens: &[Token]) -> Result<(Row, &[Token]), Fault>
-    ensures given { Gives (λ x. (x.0, x.1.now)) result (list_at tokens.now) }
+    ensures given { Reads result (list_at tokens.now) }
 {
     let rest = symbol(tokens, b'[')?;
     let (numbers, rest) = ints(Vec::new(alloc), rest)?;
@@ -107,7 +108,7 @@ pub fn list(alloc: Global, tokens: &[Token]) -> Result<(Row, &[Token]), Fault>
 
 /// A list of numbers in brackets, where a bracket follows.
 pub fn optional_list(alloc: Global, tokens: &[Token]) -> Result<(Option<Row>, &[Token]), Fault>
-    ensures given { Gives (λ x. (x.0, x.1.now)) result (optional_list_at tokens.now) }
+    ensures given { Reads result (optional_list_at tokens.now) }
 {
     if begins(tokens, b'[') {
         let (row, rest) = list(alloc, tokens)?;

@@ -1,7 +1,7 @@
 //! Rows of numbers, and edges.
 
 ghost use Rattle.std.specs.Prelude.{◌≡◌, ◌<◌, length, IfOk};
-ghost use Rattle.hp_script.specs.Reading.{Gives, starts, is_number, row_at, later_row_at, later_rows_at, some_rows_at, rows_at, edge_at, more_edges_at, edges_at, with_front};
+ghost use Rattle.hp_script.specs.Reading.{Reads, ReadsBy, LeavesFewer, starts, is_number, row_at, later_row_at, later_rows_at, some_rows_at, rows_at, edge_at, more_edges_at, edges_at, with_front};
 
 use crate::fault::Fault;
 use crate::name::Row;
@@ -10,9 +10,10 @@ use crate::token::Token;
 use hp_algebra::List;
 use std::alloc::Global;
 
+/// A row: one number or more.
 fn row(alloc: Global, tokens: &[Token]) -> Result<(Row, &[Token]), Fault>
-    ensures given { Gives (λ x. (x.0, x.1.now)) result (row_at tokens.now) }
-    ensures shorter { IfOk result (λ x. length x.1.now < length tokens.now) }
+    ensures given { Reads result (row_at tokens.now) }
+    ensures shorter { LeavesFewer result tokens.now }
 {
     let (n, rest) = int(tokens)?;
     let mut numbers = Vec::new(alloc);
@@ -21,20 +22,22 @@ fn row(alloc: Global, tokens: &[Token]) -> Result<(Row, &[Token]), Fault>
     Ok((Row::new(numbers), rest))
 }
 
+/// `,` and a row.
 fn later_row(alloc: Global, tokens: &[Token]) -> Result<(Row, &[Token]), Fault>
-    ensures given { Gives (λ x. (x.0, x.1.now)) result (later_row_at tokens.now) }
-    ensures shorter { IfOk result (λ x. length x.1.now < length tokens.now) }
+    ensures given { Reads result (later_row_at tokens.now) }
+    ensures shorter { LeavesFewer result tokens.now }
 {
     let rest = symbol(tokens, b',')?;
     row(alloc, rest)
 }
 
+/// The rows before, and those that follow behind `,`.
 fn later_rows(
     alloc: Global,
     mut rows: Vec<Row>,
     tokens: &[Token],
 ) -> Result<(Vec<Row>, &[Token]), Fault>
-    ensures given { Gives (λ x. (x.0.items, x.1.now)) result (with_front rows.items (later_rows_at tokens.now)) }
+    ensures given { ReadsBy (λ v. v.items) result (with_front rows.items (later_rows_at tokens.now)) }
 {
     let mut rest = tokens;
     'more: while begins(rest, b',') {
@@ -45,8 +48,9 @@ fn later_rows(
     Ok((rows, rest))
 }
 
+/// One row or more with commas between them, and the closing bracket.
 fn some_rows(alloc: Global, tokens: &[Token]) -> Result<(List<Row>, &[Token]), Fault>
-    ensures given { Gives (λ x. (x.0, x.1.now)) result (some_rows_at tokens.now) }
+    ensures given { Reads result (some_rows_at tokens.now) }
 {
     let (first, rest) = row(alloc, tokens)?;
     let mut rows = Vec::new(alloc);
@@ -58,7 +62,7 @@ fn some_rows(alloc: Global, tokens: &[Token]) -> Result<(List<Row>, &[Token]), F
 
 /// Rows in brackets, with commas between them.
 pub fn rows(alloc: Global, tokens: &[Token]) -> Result<(List<Row>, &[Token]), Fault>
-    ensures given { Gives (λ x. (x.0, x.1.now)) result (rows_at tokens.now) }
+    ensures given { Reads result (rows_at tokens.now) }
 {
     let rest = symbol(tokens, b'[')?;
     if begins(rest, b']') {
@@ -69,6 +73,7 @@ pub fn rows(alloc: Global, tokens: &[Token]) -> Result<(List<Row>, &[Token]), Fa
     }
 }
 
+/// Whether the first token is a number.
 fn starts_number(tokens: &[Token]) -> bool
     ensures { result ≡ starts is_number tokens.now }
 {
@@ -78,9 +83,10 @@ fn starts_number(tokens: &[Token]) -> bool
     }
 }
 
+/// An edge: two numbers with `-` between them.
 fn edge(tokens: &[Token]) -> Result<((u64, u64), &[Token]), Fault>
-    ensures given { Gives (λ x. (x.0, x.1.now)) result (edge_at tokens.now) }
-    ensures shorter { IfOk result (λ x. length x.1.now < length tokens.now) }
+    ensures given { Reads result (edge_at tokens.now) }
+    ensures shorter { LeavesFewer result tokens.now }
 {
     let (from, rest) = number(tokens)?;
     let rest = symbol(rest, b'-')?;
@@ -88,11 +94,13 @@ fn edge(tokens: &[Token]) -> Result<((u64, u64), &[Token]), Fault>
     Ok(((from, to), rest))
 }
 
+/// The edges before, and those that follow.
+#[tactic(auto, using(crate::proofs::Loop::goes_on))]
 fn more_edges(
     mut edges: Vec<(u64, u64)>,
     tokens: &[Token],
 ) -> Result<(Vec<(u64, u64)>, &[Token]), Fault>
-    ensures given { Gives (λ x. (x.0.items, x.1.now)) result (with_front edges.items (more_edges_at tokens.now)) }
+    ensures given { ReadsBy (λ v. v.items) result (with_front edges.items (more_edges_at tokens.now)) }
 {
     let mut rest = tokens;
     'more: while starts_number(rest) {
@@ -105,7 +113,7 @@ fn more_edges(
 
 /// Edges in brackets, each as two numbers with `-` between them.
 pub fn edges(alloc: Global, tokens: &[Token]) -> Result<(List<(u64, u64)>, &[Token]), Fault>
-    ensures given { Gives (λ x. (x.0, x.1.now)) result (edges_at tokens.now) }
+    ensures given { Reads result (edges_at tokens.now) }
 {
     let rest = symbol(tokens, b'[')?;
     let (edges, rest) = more_edges(Vec::new(alloc), rest)?;

@@ -1,7 +1,7 @@
 //! The words that commands, builds and limits begin with.
 
 ghost use Rattle.std.specs.Prelude.{◌≡◌};
-ghost use Rattle.hp_script.specs.Reading.{Gives, named, topics, leads, shapes, limits, keyword_of, keyword_in, word_of, token_at};
+ghost use Rattle.hp_script.specs.Reading.{Reads, named, topics, leads, shapes, limits, keyword_of, keyword_in, word_of, token_at};
 
 use crate::fault::Fault;
 use crate::token::Token;
@@ -56,6 +56,7 @@ pub enum Limit {
     Degree,
 }
 
+/// The topic that the word names.
 fn topic_of(word: &[u8]) -> Option<Topic>
     ensures { result ≡ named topics word.now }
 {
@@ -94,6 +95,7 @@ fn topic_of(word: &[u8]) -> Option<Topic>
     }
 }
 
+/// The beginning of a command that the word names, where it is no question.
 fn lead_of(word: &[u8]) -> Option<Keyword>
     ensures { result ≡ named leads word.now }
 {
@@ -108,6 +110,7 @@ fn lead_of(word: &[u8]) -> Option<Keyword>
     }
 }
 
+/// The beginning of a command that the word names.
 fn keyword_of(word: &[u8]) -> Option<Keyword>
     ensures { result ≡ keyword_of word.now }
 {
@@ -122,7 +125,7 @@ fn keyword_of(word: &[u8]) -> Option<Keyword>
 
 /// The word of a command.
 pub fn first_word(tokens: &[Token]) -> Result<(Keyword, &[Token]), Fault>
-    ensures given { Gives (λ x. (x.0, x.1.now)) result (token_at keyword_in tokens.now) }
+    ensures given { Reads result (token_at keyword_in tokens.now) }
 {
     match tokens {
         [Token::Word(first), rest @ ..] => match keyword_of(first.bytes()) {
@@ -133,6 +136,7 @@ pub fn first_word(tokens: &[Token]) -> Result<(Keyword, &[Token]), Fault>
     }
 }
 
+/// The shape that the word names.
 fn shape_of(word: &[u8]) -> Option<Shape>
     ensures { result ≡ named shapes word.now }
 {
@@ -161,7 +165,7 @@ fn shape_of(word: &[u8]) -> Option<Shape>
 
 /// The word of a build.
 pub fn shape_word(tokens: &[Token]) -> Result<(Shape, &[Token]), Fault>
-    ensures given { Gives (λ x. (x.0, x.1.now)) result (token_at (word_of shapes) tokens.now) }
+    ensures given { Reads result (token_at (word_of shapes) tokens.now) }
 {
     match tokens {
         [Token::Word(first), rest @ ..] => match shape_of(first.bytes()) {
@@ -172,6 +176,7 @@ pub fn shape_word(tokens: &[Token]) -> Result<(Shape, &[Token]), Fault>
     }
 }
 
+/// The limit that the word names.
 fn limit_of(word: &[u8]) -> Option<Limit>
     ensures { result ≡ named limits word.now }
 {
@@ -186,7 +191,7 @@ fn limit_of(word: &[u8]) -> Option<Limit>
 
 /// The word that says which limit.
 pub fn limit_word(tokens: &[Token]) -> Result<(Limit, &[Token]), Fault>
-    ensures given { Gives (λ x. (x.0, x.1.now)) result (token_at (word_of limits) tokens.now) }
+    ensures given { Reads result (token_at (word_of limits) tokens.now) }
 {
     match tokens {
         [Token::Word(first), rest @ ..] => match limit_of(first.bytes()) {

@@ -4,8 +4,8 @@ use Rattle.hp_algebra.specs.Ring.{RingOf, Numbering}
 use Rattle.hp_render.specs.declared.answer.Answer.{Answer}
 use Rattle.hp_script.specs.declared.command.Command.{Command}
 use Rattle.hp_script.specs.declared.command.Command.TheVariants.{Field, Let, LimitPairs, LimitDegree, Ask}
-use Rattle.hp_session.specs.Answers.{IsRightAnswer}
 use Rattle.hp_session.specs.Building.{built}
+use Rattle.hp_session.specs.Questions.{IsRightAnswer}
 use Rattle.hp_session.specs.Refusals.{refusal_before_field, refusal}
 use Rattle.hp_session.specs.State.{State, named}
 use Rattle.hp_session.specs.declared.limits.Limits.{Limits}
@@ -63,7 +63,7 @@ module _ {K : Type 0} (ring : RingOf K) (inverse : K → K) (numbers : Numbering
 
   -- a right answer of a question in a state
   abbrev pub Answers : State K → Command → Answer K → Type 0
-  Answers state (Ask x q) a = IsRightAnswer ring numbers state.limits (named state x) q a
+  Answers state (Ask x q) a = IsRightAnswer ring inverse numbers state.limits (named state x) q a
   Answers state other a = ⊥
 
   -- An accepted command that is no question changes the state, an accepted question is answered, a refused command is refused for what it is; but for the first, the state stays as it was.

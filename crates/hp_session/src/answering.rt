@@ -1,21 +1,26 @@
 //! The answers of questions.
 
 ghost use Rattle.std.specs.Prelude.{◌≡◌, true, None, IfOk, IfErr, OnOk};
-ghost use Rattle.hp_arr.specs.Flats.{total_rank};
+ghost use Rattle.hp_arr.specs.Flats.{flats, total_rank};
+ghost use Rattle.hp_arr.specs.Moebius.{characteristic, poincare};
+ghost use Rattle.hp_arr.specs.Operations.{deletion, restriction};
 ghost use Rattle.hp_render.specs.declared.answer.Answer.{Answer};
 ghost use Rattle.hp_script.specs.Lists.{QuestionIsShort};
 ghost use Rattle.hp_script.specs.declared.command.Command.TheVariants.{Ask};
-ghost use Rattle.hp_session.specs.Answers.{IsRightAnswer, right_flats};
-ghost use Rattle.hp_session.specs.Refusals.{is_built, question_refusal, refusal};
+ghost use Rattle.hp_script.specs.declared.command.Question.{Question};
+ghost use Rattle.hp_session.specs.Answers.{unless_many_flats, circuits_or_limit, nbc_or_limit};
+ghost use Rattle.hp_session.specs.Questions.{is_built, IsRightAnswer};
 ghost use Rattle.hp_session.specs.Steps.{Answers};
-ghost use Rattle.hp_session.specs.Stops.{StopsBy};
+ghost use Rattle.hp_session.specs.Stops.{StopsBy, ask_refusal, question_refusal};
 
+use crate::building::index;
 use crate::limits::Limits;
 use crate::questions::is_built;
 use crate::session::Session;
 use crate::stop::Stop;
 use hp_algebra::{FiniteField, List, NoMem};
 use hp_arr::Arr;
+use hp_circuits::{CircuitStop, NbcStop};
 use hp_flats::FlatStop;
 use hp_render::{Answer, AskWord, LimitKind, Refusal};
 use hp_script::{Name, Question};
@@ -30,9 +35,9 @@ pub fn answered<K: FiniteField>(
     question: &Question,
 ) -> Result<Answer<K>, Stop>
     requires { QuestionIsShort question.now }
-    ensures accepted { OnOk result (refusal K.ring K.inverse K.numbers session.now (Ask name.now question.now) ≡ None) }
+    ensures accepted { OnOk result (ask_refusal session.now name.now question.now ≡ None) }
     ensures right { IfOk result (Answers K.ring K.inverse K.numbers session.now (Ask name.now question.now)) }
-    ensures stop { IfErr result (StopsBy (refusal K.ring K.inverse K.numbers session.now (Ask name.now question.now))) }
+    ensures stop { IfErr result (StopsBy (ask_refusal session.now name.now question.now)) }
 {
     if !is_built(question) {
         return Err(Stop::Refused(Refusal::NotBuilt));
@@ -50,15 +55,20 @@ fn answer<K: FiniteField>(
 ) -> Result<Answer<K>, Stop>
     requires short { QuestionIsShort question.now }
     requires built { is_built question.now ≡ true }
-    ensures accepted { OnOk result (question_refusal K.ring K.inverse K.numbers arr.now question.now ≡ None) }
-    ensures right { IfOk result (IsRightAnswer K.ring K.numbers limits arr.now question.now) }
-    ensures stop { IfErr result (StopsBy (question_refusal K.ring K.inverse K.numbers arr.now question.now)) }
+    ensures accepted { OnOk result (question_refusal arr.now question.now ≡ None) }
+    ensures right { IfOk result (IsRightAnswer K.ring K.inverse K.numbers limits arr.now question.now) }
+    ensures stop { IfErr result (StopsBy (question_refusal arr.now question.now)) }
 {
     match question {
         Question::Hyperplanes => Ok(hyperplanes(alloc, arr)?),
         Question::Point => Ok(Answer::Point(List::of(arr.least_point_off(alloc)?))),
         Question::Rank => Ok(rank(alloc, arr)?),
         Question::Flats => Ok(flats(alloc, arr)?),
+        Question::Poincare => Ok(poincare(alloc, arr)?),
+        Question::Characteristic => Ok(characteristic(alloc, arr)?),
+        Question::Triple(i) => triple(alloc, arr, *i),
+        Question::Circuits => Ok(circuits(alloc, arr)?),
+        Question::Nbc => Ok(nbc(alloc, arr)?),
         _ => unreachable!(),
     }
 }
@@ -87,14 +97,98 @@ fn rank<K: FiniteField>(alloc: Global, arr: &Arr<K>) -> Result<Answer<K>, NoMem>
 
 /// The flats of the arrangement, or that there are too many.
 fn flats<K: FiniteField>(alloc: Global, arr: &Arr<K>) -> Result<Answer<K>, NoMem>
-    ensures { IfOk result (λ a. a ≡ right_flats K.ring K.numbers arr.now) }
+    ensures { let all = Answer.Flats (flats K.ring K.numbers arr.now) in
+        IfOk result (λ a. a ≡ unless_many_flats K.ring K.numbers arr.now AskWord.Flats all) }
 {
     match hp_flats::flats(alloc, arr) {
         Ok(flats) => Ok(Answer::Flats(List::of(flats))),
-        Err(FlatStop::TooMany) => Ok(Answer::Limit {
-            asked: AskWord::Flats,
+        Err(stop) => many_flats(stop, AskWord::Flats),
+    }
+}
+
+/// The Poincaré polynomial of the arrangement, or that there are too many flats.
+fn poincare<K: FiniteField>(alloc: Global, arr: &Arr<K>) -> Result<Answer<K>, NoMem>
+    ensures { let pi = Answer.Poincare (poincare K.ring K.numbers arr.now) in
+        IfOk result (λ a. a ≡ unless_many_flats K.ring K.numbers arr.now AskWord.Poincare pi) }
+{
+    match hp_mobius::poincare(alloc, arr) {
+        Ok(pi) => Ok(Answer::Poincare(List::of(pi))),
+        Err(stop) => many_flats(stop, AskWord::Poincare),
+    }
+}
+
+/// The characteristic polynomial of the arrangement, or that there are too many flats.
+fn characteristic<K: FiniteField>(alloc: Global, arr: &Arr<K>) -> Result<Answer<K>, NoMem>
+    ensures { let chi = Answer.Characteristic (characteristic K.ring K.numbers arr.now) in
+        IfOk result (λ a. a ≡ unless_many_flats K.ring K.numbers arr.now AskWord.Characteristic chi) }
+{
+    match hp_mobius::characteristic(alloc, arr) {
+        Ok(chi) => Ok(Answer::Characteristic(List::of(chi))),
+        Err(stop) => many_flats(stop, AskWord::Characteristic),
+    }
+}
+
+/// The Poincaré polynomials of the arrangement, of its deletion and of its restriction at the hyperplane of this
+/// number, or that the arrangement has too many flats.
+fn triple<K: FiniteField>(alloc: Global, arr: &Arr<K>, i: u64) -> Result<Answer<K>, Stop>
+    ensures accepted { OnOk result (question_refusal arr.now (Question.Triple i) ≡ None) }
+    ensures right { let pi = poincare K.ring K.numbers in
+        let triple = Answer.Triple (pi arr.now) (pi (deletion arr.now i)) (pi (restriction K.ring K.inverse arr.now i)) in
+        IfOk result (λ a. a ≡ unless_many_flats K.ring K.numbers arr.now AskWord.Triple triple) }
+    ensures stop { IfErr result (StopsBy (question_refusal arr.now (Question.Triple i))) }
+{
+    if arr.dim() == 1 {
+        return Err(Stop::Refused(Refusal::Dimension));
+    }
+    let i = index(arr, i)?;
+    match hp_mobius::triple(alloc, arr, i) {
+        Ok(pi) => Ok(Answer::Triple {
+            whole: pi.whole,
+            deleted: pi.deleted,
+            restricted: pi.restricted,
+        }),
+        Err(stop) => Ok(many_flats(stop, AskWord::Triple)?),
+    }
+}
+
+/// The circuits of the arrangement, or that there are too many.
+fn circuits<K: FiniteField>(alloc: Global, arr: &Arr<K>) -> Result<Answer<K>, NoMem>
+    ensures { IfOk result (λ a. a ≡ circuits_or_limit K.ring K.numbers arr.now) }
+{
+    match hp_circuits::circuits(alloc, arr) {
+        Ok(sets) => Ok(Answer::Circuits(List::of(sets))),
+        Err(CircuitStop::TooMany) => Ok(Answer::Limit {
+            asked: AskWord::Circuits,
+            kind: LimitKind::Circuits,
+        }),
+        Err(CircuitStop::Memory) => Err(NoMem),
+    }
+}
+
+/// The sets that contain no broken circuit, or that there are too many.
+fn nbc<K: FiniteField>(alloc: Global, arr: &Arr<K>) -> Result<Answer<K>, NoMem>
+    ensures { IfOk result (λ a. a ≡ nbc_or_limit K.ring K.numbers arr.now) }
+{
+    match hp_circuits::nbc(alloc, arr) {
+        Ok(sets) => Ok(Answer::Nbc(List::of(sets))),
+        Err(NbcStop::TooMany) => Ok(Answer::Limit {
+            asked: AskWord::Nbc,
+            kind: LimitKind::Nbc,
+        }),
+        Err(NbcStop::Memory) => Err(NoMem),
+    }
+}
+
+/// The answer where there are too many flats for the question of that word.
+fn many_flats<K: FiniteField>(stop: FlatStop, asked: AskWord) -> Result<Answer<K>, NoMem>
+    ensures limit { IfOk result (λ a. a ≡ Answer.Limit asked LimitKind.Flats) }
+    ensures many { OnOk result (stop ≡ FlatStop.TooMany) }
+{
+    match stop {
+        FlatStop::TooMany => Ok(Answer::Limit {
+            asked,
             kind: LimitKind::Flats,
         }),
-        Err(FlatStop::Memory) => Err(NoMem),
+        FlatStop::Memory => Err(NoMem),
     }
 }

@@ -6,10 +6,10 @@ ghost use Rattle.hp_arr.specs.FormFaults.{form_fault};
 ghost use Rattle.hp_arr.specs.Operations.{cone, deletion, restriction};
 ghost use Rattle.hp_render.specs.declared.refusal.Refusal.TheVariants.{Dimension};
 ghost use Rattle.hp_script.specs.Lists.{BuildIsShort, IsShort};
-ghost use Rattle.hp_session.specs.Building.{built, rows_of};
-ghost use Rattle.hp_session.specs.Refusals.{where_true, is_dimension, has_wrong_length, refusal_in_order, index_refusal, source_refusal, build_refusal, let_refusal};
+ghost use Rattle.hp_session.specs.Building.{built, rows_of, is_dimension, has_wrong_length, range_refusal, rows_refusal, source_refusal};
+ghost use Rattle.hp_session.specs.Refused.{where_true, line_refusal, index_refusal};
 ghost use Rattle.hp_session.specs.State.{lookup};
-ghost use Rattle.hp_session.specs.Stops.{StopsBy};
+ghost use Rattle.hp_session.specs.Stops.{StopsBy, refusal_in_order, build_refusal, let_refusal};
 
 use crate::session::Session;
 use crate::stop::Stop;
@@ -44,8 +44,8 @@ fn require_source<K: FiniteField>(
     session: &Session<K>,
     build: &Build,
 ) -> Result<(), Stop>
-    ensures known { OnOk result (source_refusal K.ring K.inverse K.numbers session.now build.now ≡ None) }
-    ensures stop { IfErr result (StopsBy (source_refusal K.ring K.inverse K.numbers session.now build.now)) }
+    ensures known { OnOk result (source_refusal session.now build.now ≡ None) }
+    ensures stop { IfErr result (StopsBy (source_refusal session.now build.now)) }
 {
     if let Build::Delete(name, _) | Build::Restrict(name, _) = build {
         session.known(alloc, name)?;
@@ -56,7 +56,7 @@ fn require_source<K: FiniteField>(
 /// What is built.
 fn made<K: FiniteField>(alloc: Global, session: &Session<K>, build: &Build) -> Result<Arr<K>, Stop>
     requires short { BuildIsShort build.now }
-    requires known { source_refusal K.ring K.inverse K.numbers session.now build.now ≡ None }
+    requires known { source_refusal session.now build.now ≡ None }
     ensures accepted { OnOk result (build_refusal K.ring K.inverse K.numbers session.now build.now ≡ None) }
     ensures value { IfOk result (λ arr. arr ≡ built K.ring K.inverse session.now build.now) }
     ensures stop { IfErr result (StopsBy (build_refusal K.ring K.inverse K.numbers session.now build.now)) }
@@ -77,11 +77,11 @@ fn made<K: FiniteField>(alloc: Global, session: &Session<K>, build: &Build) -> R
 /// The arrangement of these rows in l variables.
 fn of_forms<K: FiniteField>(alloc: Global, l: u64, rows: &[Row]) -> Result<Arr<K>, Stop>
     requires { IsShort rows.now }
-    ensures accepted { let is_bad = not (is_dimension l) || has_wrong_length l rows.now in
-        OnOk result (refusal_in_order is_bad None None (form_fault K.ring K.numbers (rows_of K.ring rows.now)) ≡ None) }
+    ensures accepted { let dimension = rows_refusal l rows.now in
+        OnOk result (refusal_in_order dimension None None (form_fault K.ring K.numbers (rows_of K.ring rows.now)) ≡ None) }
     ensures value { IfOk result (λ arr. arr ≡ record { dim = l; forms = rows_of K.ring rows.now }) }
-    ensures stop { let is_bad = not (is_dimension l) || has_wrong_length l rows.now in
-        IfErr result (StopsBy (refusal_in_order is_bad None None (form_fault K.ring K.numbers (rows_of K.ring rows.now)))) }
+    ensures stop { let dimension = rows_refusal l rows.now in
+        IfErr result (StopsBy (refusal_in_order dimension None None (form_fault K.ring K.numbers (rows_of K.ring rows.now)))) }
 {
     let dim = dimension(l)?;
     Ok(Arr::new(alloc, dim, forms_of(alloc, l, rows)?)?)
@@ -90,11 +90,11 @@ fn of_forms<K: FiniteField>(alloc: Global, l: u64, rows: &[Row]) -> Result<Arr<K
 /// The cone over the affine hyperplanes of these rows in l variables.
 fn cone_over<K: FiniteField>(alloc: Global, l: u64, rows: &[Row]) -> Result<Arr<K>, Stop>
     requires { IsShort rows.now }
-    ensures accepted { let is_bad = not (is_dimension (l + 1)) || has_wrong_length (l + 1) rows.now in
-        OnOk result (refusal_in_order is_bad None None (form_fault K.ring K.numbers (cone K.ring l (rows_of K.ring rows.now)).forms) ≡ None) }
+    ensures accepted { let dimension = rows_refusal (l + 1) rows.now in
+        OnOk result (refusal_in_order dimension None None (form_fault K.ring K.numbers (cone K.ring l (rows_of K.ring rows.now)).forms) ≡ None) }
     ensures value { IfOk result (λ arr. arr ≡ cone K.ring l (rows_of K.ring rows.now)) }
-    ensures stop { let is_bad = not (is_dimension (l + 1)) || has_wrong_length (l + 1) rows.now in
-        IfErr result (StopsBy (refusal_in_order is_bad None None (form_fault K.ring K.numbers (cone K.ring l (rows_of K.ring rows.now)).forms))) }
+    ensures stop { let dimension = rows_refusal (l + 1) rows.now in
+        IfErr result (StopsBy (refusal_in_order dimension None None (form_fault K.ring K.numbers (cone K.ring l (rows_of K.ring rows.now)).forms))) }
 {
     let below = below_dimension(l)?;
     Ok(Arr::cone(alloc, below, forms_of(alloc, l + 1, rows)?)?)
@@ -102,9 +102,9 @@ fn cone_over<K: FiniteField>(alloc: Global, l: u64, rows: &[Row]) -> Result<Arr<
 
 /// The arrangement without the hyperplane of this number.
 fn deleted<K: FiniteField>(alloc: Global, arr: &Arr<K>, i: u64) -> Result<Arr<K>, Stop>
-    ensures accepted { OnOk result (refusal_in_order false (index_refusal arr.now i) None None ≡ None) }
+    ensures accepted { OnOk result (refusal_in_order None (index_refusal arr.now i) None None ≡ None) }
     ensures value { IfOk result (λ cut. cut ≡ deletion arr.now i) }
-    ensures stop { IfErr result (StopsBy (refusal_in_order false (index_refusal arr.now i) None None)) }
+    ensures stop { IfErr result (StopsBy (refusal_in_order None (index_refusal arr.now i) None None)) }
 {
     let i = index(arr, i)?;
     Ok(arr.delete(alloc, i)?)
@@ -112,9 +112,9 @@ fn deleted<K: FiniteField>(alloc: Global, arr: &Arr<K>, i: u64) -> Result<Arr<K>
 
 /// The restriction to the hyperplane of this number.
 fn restricted<K: FiniteField>(alloc: Global, arr: &Arr<K>, i: u64) -> Result<Arr<K>, Stop>
-    ensures accepted { OnOk result (refusal_in_order (arr.now.dim == 1) (index_refusal arr.now i) None None ≡ None) }
+    ensures accepted { OnOk result (refusal_in_order (line_refusal arr.now) (index_refusal arr.now i) None None ≡ None) }
     ensures value { IfOk result (λ cut. cut ≡ restriction K.ring K.inverse arr.now i) }
-    ensures stop { IfErr result (StopsBy (refusal_in_order (arr.now.dim == 1) (index_refusal arr.now i) None None)) }
+    ensures stop { IfErr result (StopsBy (refusal_in_order (line_refusal arr.now) (index_refusal arr.now i) None None)) }
 {
     if arr.dim() == 1 {
         return Err(Stop::Refused(Refusal::Dimension));
@@ -124,7 +124,7 @@ fn restricted<K: FiniteField>(alloc: Global, arr: &Arr<K>, i: u64) -> Result<Arr
 }
 
 /// The number as that of a hyperplane.
-fn index<K: FiniteField>(arr: &Arr<K>, i: u64) -> Result<u32, Stop>
+pub(crate) fn index<K: FiniteField>(arr: &Arr<K>, i: u64) -> Result<u32, Stop>
     ensures accepted { OnOk result (index_refusal arr.now i ≡ None) }
     ensures low { IfOk result (λ index. 1 ≤ index) }
     ensures high { IfOk result (λ index. index ≤ length arr.now.forms) }
@@ -143,7 +143,7 @@ fn dimension(l: u64) -> Result<u32, Stop>
     ensures low { IfOk result (λ dim. 1 ≤ dim) }
     ensures high { IfOk result (λ dim. dim ≤ MAX_DIM) }
     ensures value { IfOk result (λ dim. dim ≡ l) }
-    ensures stop { IfErr result (StopsBy (where_true (not (is_dimension l)) Dimension)) }
+    ensures stop { IfErr result (StopsBy (range_refusal l)) }
 {
     if 1 <= l && l <= MAX_DIM as u64 {
         return Ok(l as u32);
@@ -156,7 +156,7 @@ fn below_dimension(l: u64) -> Result<u32, Stop>
     ensures accepted { OnOk result (is_dimension (l + 1) ≡ true) }
     ensures high { IfOk result (λ below. below < MAX_DIM) }
     ensures value { IfOk result (λ below. below ≡ l) }
-    ensures stop { IfErr result (StopsBy (where_true (not (is_dimension (l + 1))) Dimension)) }
+    ensures stop { IfErr result (StopsBy (range_refusal (l + 1))) }
 {
     if l < MAX_DIM as u64 {
         return Ok(l as u32);

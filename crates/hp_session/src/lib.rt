@@ -9,8 +9,6 @@ mod prelude;
 mod questions;
 mod session;
 mod stop;
-#[cfg(test)]
-mod tests;
 mod which;
 
 pub use limits::Limits;

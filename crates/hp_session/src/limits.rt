@@ -2,7 +2,7 @@
 
 ghost use Rattle.std.specs.Prelude.{◌≡◌, ◌<◌, ◌≤◌, None, Some, IfOk, IfErr, OnOk, OnErr};
 ghost use Rattle.hp_render.specs.declared.refusal.Refusal.TheVariants.{BadLimit};
-ghost use Rattle.hp_session.specs.Refusals.{limit_refusal};
+ghost use Rattle.hp_session.specs.Refusals.{bad_limit};
 ghost use Rattle.hp_session.specs.State.{AreLimits};
 ghost use Rattle.hp_session.specs.Steps.{limits_after};
 
@@ -25,9 +25,9 @@ impl Limits {
     /// Sets the limit that the command names, if it names one. Refused, the limits stay as they were. Takes no memory.
     pub(crate) fn set(&mut self, command: &Command) -> Result<(), Refusal>
         requires { AreLimits self.old }
-        ensures accepted { OnOk result (limit_refusal command.now ≡ None) }
+        ensures accepted { OnOk result (bad_limit command.now ≡ None) }
         ensures set { OnOk result (self.new ≡ limits_after self.old command.now) }
-        ensures refused { IfErr result (λ r. limit_refusal command.now ≡ Some r) }
+        ensures refused { IfErr result (λ r. bad_limit command.now ≡ Some r) }
         ensures kept { OnErr result (self.new ≡ self.old) }
         ensures limits { AreLimits self.new }
     {

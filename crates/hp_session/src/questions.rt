@@ -1,7 +1,7 @@
 //! The questions that are answered so far.
 
 ghost use Rattle.std.specs.Prelude.{◌≡◌};
-ghost use Rattle.hp_session.specs.Refusals.{is_built};
+ghost use Rattle.hp_session.specs.Questions.{is_built};
 
 use hp_script::Question;
 
@@ -11,6 +11,14 @@ pub fn is_built(question: &Question) -> bool
 {
     matches!(
         question,
-        Question::Hyperplanes | Question::Point | Question::Rank | Question::Flats
+        Question::Hyperplanes
+            | Question::Point
+            | Question::Rank
+            | Question::Flats
+            | Question::Poincare
+            | Question::Characteristic
+            | Question::Triple(_)
+            | Question::Circuits
+            | Question::Nbc
     )
 }

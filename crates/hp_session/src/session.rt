@@ -4,10 +4,10 @@ ghost use Rattle.std.specs.Prelude.{◌≡◌, not, None, Some, IfOk, IfErr, OnO
 ghost use Rattle.hp_render.specs.declared.refusal.Refusal.TheVariants.{NameTaken};
 ghost use Rattle.hp_script.specs.Lists.{BuildIsShort, CommandIsShort};
 ghost use Rattle.hp_script.specs.declared.command.Command.TheVariants.{Let};
-ghost use Rattle.hp_session.specs.Refusals.{where_true, unknown_refusal, let_refusal};
+ghost use Rattle.hp_session.specs.Refused.{where_true, unknown_refusal};
 ghost use Rattle.hp_session.specs.State.{AreLimits, no_names, lookup, is_unknown};
 ghost use Rattle.hp_session.specs.Steps.{Steps, after};
-ghost use Rattle.hp_session.specs.Stops.{StopsBy, step_of};
+ghost use Rattle.hp_session.specs.Stops.{StopsBy, step_of, let_refusal};
 
 use crate::answering::answered;
 use crate::building::arrangement;
@@ -119,7 +119,7 @@ impl<K: FiniteField> Session<K> {
     /// The arrangement of this name, which is refused where it is not known.
     pub(crate) fn known(&self, alloc: Global, name: &Name) -> Result<&Arr<K>, Stop>
         ensures known { IfOk result (λ arr. lookup self.now.names name.now ≡ Some arr.now) }
-        ensures stop { IfErr result (StopsBy (unknown_refusal K.ring K.inverse K.numbers self.now name.now)) }
+        ensures stop { IfErr result (StopsBy (unknown_refusal self.now name.now)) }
     {
         match self.names.find(name.bytes()) {
             Some(arr) => Ok(arr),

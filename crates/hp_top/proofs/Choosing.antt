@@ -18,7 +18,8 @@ use Rattle.hp_top.specs.declared.status.Status.TheVariants.{Done}
 use Rattle.hp_top.proofs.Courses.{nothing_text}
 
 -- a limit leaves the choice to the lines behind it
-behind-limit : (limits : Limits) (c : Command) (ls : List Line) (rest : Course) → IsLimit c → course_behind limits c ls rest ≡ rest
+behind-limit : (limits : Limits) (c : Command) (ls : List Line) (rest : Course) → IsLimit c
+    → course_behind limits c ls rest ≡ rest
 behind-limit limits (Field p) ls rest is = absurd is
 behind-limit limits (Let x b) ls rest is = absurd is
 behind-limit limits (LimitPairs n) ls rest is = refl
@@ -32,13 +33,16 @@ module _ (limits : Limits) (l : Line) (ls : List Line) where
   accepted : refusal_before_field l.command ≡ None → course_before limits (l ∷ ls) ≡ behind
   accepted e = ap (λ o. line_course o l.number [] behind) e
 
-  pub before_refused : (r : Refusal) → refusal_before_field l.command ≡ Some r → course_before limits (l ∷ ls) ≡ refused_at l.number r
+  pub before_refused : (r : Refusal) → refusal_before_field l.command ≡ Some r
+      → course_before limits (l ∷ ls) ≡ refused_at l.number r
   before_refused r e = ap (λ o. line_course o l.number [] behind) e
 
-  pub before_limit : (next : Limits) → refusal_before_field l.command ≡ None → IsLimit l.command → next ≡ limits_after limits l.command → course_before limits (l ∷ ls) ≡ course_before next ls
+  pub before_limit : (next : Limits) → refusal_before_field l.command ≡ None → IsLimit l.command
+      → next ≡ limits_after limits l.command → course_before limits (l ∷ ls) ≡ course_before next ls
   before_limit next e is same = accepted e ∙ behind-limit limits l.command ls (course_before (limits_after limits l.command) ls) is ∙ ap (λ n. course_before n ls) (sym same)
 
-  pub before_field : (p : ℕ) → refusal_before_field l.command ≡ None → l.command ≡ Field p → course_before limits (l ∷ ls) ≡ course_after p (no_names limits) ls
+  pub before_field : (p : ℕ) → refusal_before_field l.command ≡ None → l.command ≡ Field p
+      → course_before limits (l ∷ ls) ≡ course_after p (no_names limits) ls
   before_field p e is = accepted e ∙ ap (λ c. course_behind limits c ls (course_before (limits_after limits l.command) ls)) is
 
 -- under these limits the course of all lines goes on at line i
@@ -54,13 +58,17 @@ module _ (lines : List Line) (i : ℕ) (limits : Limits) (ahead : course lines �
     at_line = ahead ∙ ap (course_before limits) (drop_more lines i line within ∙ ap (λ l. l ∷ drop (i + 1) lines) (sym read))
 
     -- the line is refused, and that ends the run
-    pub ends_refused : (r : Refusal) (status : Status) (before now : Option (List ℕ)) → refusal_before_field line.command ≡ Some r → EndsBy status (refused_at line.number r) before now → EndsBy status (course lines) before now
+    pub ends_refused : (r : Refusal) (status : Status) (before now : Option (List ℕ))
+        → refusal_before_field line.command ≡ Some r → EndsBy status (refused_at line.number r) before now
+        → EndsBy status (course lines) before now
     ends_refused r status before now refused ends =
         subst (λ c. EndsBy status c before now) (sym (at_line ∙ before_refused limits line (drop (i + 1) lines) r refused)) ends
 
     -- the line chooses a field, and the run ends by the course of the lines behind it
-    pub ends_chosen : (p : ℕ) (next : Limits) (status : Status) (before now : Option (List ℕ)) → refusal_before_field line.command ≡ None → line.command ≡ Field p → next ≡ limits
-        → EndsBy status (course_after p (no_names next) (take (length lines - (i + 1)) (drop (i + 1) lines))) before now → EndsBy status (course lines) before now
+    pub ends_chosen : (p : ℕ) (next : Limits) (status : Status) (before now : Option (List ℕ))
+        → refusal_before_field line.command ≡ None → line.command ≡ Field p → next ≡ limits
+        → EndsBy status (course_after p (no_names next) (take (length lines - (i + 1)) (drop (i + 1) lines))) before now
+        → EndsBy status (course lines) before now
     ends_chosen p next status before now accepted chosen same ends =
         let behind : course lines ≡ course_after p (no_names limits) (drop (i + 1) lines) = at_line ∙ before_field limits line (drop (i + 1) lines) p accepted chosen in
         let there : course_after p (no_names next) (take (length lines - (i + 1)) (drop (i + 1) lines)) ≡ course_after p (no_names limits) (drop (i + 1) lines) =

@@ -4,7 +4,7 @@ use Rattle.hp_modp.specs.Residues.{residue_ring, inverse_mod, residue_numbers}
 use Rattle.hp_arr.specs.Arrangement.{Arrangement}
 use Rattle.hp_render.specs.declared.refusal.Refusal.{Refusal}
 use Rattle.hp_render.specs.declared.refusal.Refusal.TheVariants.{Syntax}
-use Rattle.hp_script.specs.Script.{HasCommands, HasSyntaxFault}
+use Rattle.hp_script.specs.Script.{most_bytes, HasCommands, HasSyntaxFault}
 use Rattle.hp_script.specs.declared.command.Command.{Command}
 use Rattle.hp_script.specs.declared.command.Command.TheVariants.{Field, Ask}
 use Rattle.hp_script.specs.declared.command.Line.{Line}
@@ -80,9 +80,9 @@ HasCourse script c =
     ((line : ℕ) × (column : ℕ) × HasSyntaxFault script line column × (c ≡ refused_at line (Syntax column)))
     ⊎ ((cs : List Line) × HasCommands script cs × (c ≡ course cs))
 
--- a script has at most this many bytes
+-- a script that is read whole
 abbrev pub IsShort : List ℕ → Type 0
-IsShort script = length script ≤ 1048576
+IsShort script = length script ≤ most_bytes
 
 -- accepted: every line is within the grammar, and no command is refused
 abbrev pub IsAccepted : List ℕ → Type 0

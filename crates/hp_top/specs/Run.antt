@@ -1,6 +1,7 @@
 -- What a run does: what it reads and writes by each status, and when each status comes.
-use Rattle.std.specs.Prelude.{◌≡◌, ◌≢◌, ◌⊎◌, ◌↔◌, ℕ, ◌<◌, ◌≤◌, List, [], ◌++◌, length, Option, Some}
+use Rattle.std.specs.Prelude.{◌≡◌, ◌≢◌, ◌⊎◌, ◌↔◌, ℕ, ◌-◌, ◌^◌, ◌<◌, ◌≤◌, List, [], ◌++◌, length, Option, Some}
 use Rattle.hp_io.specs.Causes.{Rose}
+use Rattle.hp_script.specs.Script.{most_bytes}
 use Rattle.hp_top.specs.Course.{IsShort, IsAccepted, IsRefused}
 use Rattle.hp_top.specs.Text.{IsRunText, IsPartText}
 use Rattle.hp_top.specs.declared.status.Status.{Status}
@@ -34,12 +35,12 @@ module _ (call : Call) where
   abbrev pub Reads : List ℕ → Type 0
   Reads script = (call.words ≡ []) × (call.left_before ≡ Some script)
 
-  -- The headline. An accepted script, with no fault and ample memory: the bytes written are the text of one right answer for each question, in order.
+  -- The headline, which follows from the parts below. An accepted script, with no fault and ample memory: the bytes written are the text of one right answer for each question, in order.
   abbrev pub WritesRightRun : Type 0
   WritesRightRun = (script : List ℕ) → Reads script → NoFaults → call.status ≢ OutOfMemory → IsAccepted script
       → (call.status ≡ Done) × (call.left_after ≡ Some []) × Wrote (IsRunText script)
 
-  -- A refused script likewise: the answers before the refusal, and its line.
+  -- A refused script likewise, and this follows too: the answers before the refusal, and its line.
   abbrev pub WritesRefusal : Type 0
   WritesRefusal = (script : List ℕ) → Reads script → NoFaults → call.status ≢ OutOfMemory → IsRefused script
       → (call.status ≡ ScriptRefused) × (call.left_after ≡ Some []) × Wrote (IsRunText script)
@@ -53,25 +54,39 @@ module _ (call : Call) where
   pub record WritesByStatus : Type 0 where
     pub read_fault : call.status ≡ ReadFault → WroteNothing
     pub too_long : call.status ≡ TooLong → WroteNothing
-    pub cut_off : (script : List ℕ) → Reads script → (call.status ≡ WriteFault) ⊎ (call.status ≡ OutOfMemory) → Wrote (λ bytes. (bytes ≡ []) ⊎ (IsShort script × IsPartText script bytes))
-    pub done : (script : List ℕ) → Reads script → call.status ≡ Done → IsAccepted script × (call.left_after ≡ Some []) × Wrote (IsRunText script)
-    pub refused : (script : List ℕ) → Reads script → call.status ≡ ScriptRefused → IsRefused script × (call.left_after ≡ Some []) × Wrote (IsRunText script)
+    pub cut_off : (script : List ℕ) → Reads script → (call.status ≡ WriteFault) ⊎ (call.status ≡ OutOfMemory)
+        → Wrote (λ bytes. (bytes ≡ []) ⊎ (IsShort script × IsPartText script bytes))
+    pub done : (script : List ℕ) → Reads script → call.status ≡ Done
+        → IsAccepted script × (call.left_after ≡ Some []) × Wrote (IsRunText script)
+    pub refused : (script : List ℕ) → Reads script → call.status ≡ ScriptRefused
+        → IsRefused script × (call.left_after ≡ Some []) × Wrote (IsRunText script)
 
   -- When each status comes. Want of memory is the one free answer.
   pub record HasCauses : Type 0 where
     pub read_fault : call.status ≡ ReadFault → (call.words ≡ []) × Rose call.read_faults_before call.read_faults_after
-    pub write_fault : call.status ≡ WriteFault → (call.words ≡ []) × Rose call.write_faults_before call.write_faults_after
+    pub write_fault : call.status ≡ WriteFault → (call.words ≡ [])
+        × Rose call.write_faults_before call.write_faults_after
     -- exactly where more than the most was taken; without a read fault that is so for every longer script
-    pub too_long : (script : List ℕ) → Reads script → call.status ≡ TooLong → (taken : List ℕ) × (left : List ℕ) × (script ≡ taken ++ left) × (call.left_after ≡ Some left) × (1048576 < length taken)
-    pub taken_too_much : (taken left : List ℕ) → Reads (taken ++ left) → call.left_after ≡ Some left → 1048576 < length taken → (call.status ≡ TooLong) ⊎ (call.status ≡ OutOfMemory)
-    pub longer : (script : List ℕ) → Reads script → 1048576 < length script → ¬ (Rose call.read_faults_before call.read_faults_after) → (call.status ≡ TooLong) ⊎ (call.status ≡ OutOfMemory)
-    pub accepted : (script : List ℕ) → Reads script → NoFaults → IsAccepted script → (call.status ≡ Done) ⊎ (call.status ≡ OutOfMemory)
-    pub refused : (script : List ℕ) → Reads script → NoFaults → IsRefused script → (call.status ≡ ScriptRefused) ⊎ (call.status ≡ OutOfMemory)
+    pub too_long : (script : List ℕ) → Reads script → call.status ≡ TooLong
+        → (taken : List ℕ) × (left : List ℕ) × (script ≡ taken ++ left) × (call.left_after ≡ Some left)
+        × (most_bytes < length taken)
+    pub taken_too_much : (taken left : List ℕ) → Reads (taken ++ left) → call.left_after ≡ Some left
+        → most_bytes < length taken → call.status ≡ TooLong
+    pub longer : (script : List ℕ) → Reads script → most_bytes < length script
+        → ¬ (Rose call.read_faults_before call.read_faults_after)
+        → (call.status ≡ TooLong) ⊎ (call.status ≡ OutOfMemory)
+    -- these two follow from the parts above and from what was written
+    pub accepted : (script : List ℕ) → Reads script → NoFaults → IsAccepted script
+        → (call.status ≡ Done) ⊎ (call.status ≡ OutOfMemory)
+    pub refused : (script : List ℕ) → Reads script → NoFaults → IsRefused script
+        → (call.status ≡ ScriptRefused) ⊎ (call.status ≡ OutOfMemory)
 
   -- The counts of faults don't fall, and fit their type.
   pub record CountsFaults : Type 0 where
     pub read_faults : call.read_faults_before ≤ call.read_faults_after
     pub write_faults : call.write_faults_before ≤ call.write_faults_after
+    pub read_fits : call.read_faults_after ≤ 2 ^ 64 - 1
+    pub write_fits : call.write_faults_after ≤ 2 ^ 64 - 1
 
   -- The whole of it.
   pub record IsRightCall : Type 0 where

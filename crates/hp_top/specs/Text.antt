@@ -1,11 +1,10 @@
 -- The bytes that a run writes: the texts of right answers in order, and the line of a refusal.
 use Rattle.std.specs.Prelude.{◌≡◌, ℕ, nat_lt, if◌then◌else◌, List, [], ◌∷◌, ◌++◌, take, length, Option, Some, None}
-use Rattle.std.specs.List.{AllZip}
-use Rattle.hp_modp.specs.Residues.{residue_ring, residue_numbers}
+use Rattle.hp_modp.specs.Residues.{residue_ring, inverse_mod, residue_numbers}
 use Rattle.hp_render.specs.Text.{answer_text, refusal_text}
 use Rattle.hp_render.specs.declared.answer.Answer.{Answer}
 use Rattle.hp_render.specs.declared.refusal.Refusal.{Refusal}
-use Rattle.hp_session.specs.Answers.{IsRightAnswer}
+use Rattle.hp_session.specs.Questions.{IsRightAnswer}
 use Rattle.hp_top.specs.Course.{Asked, Course, HasCourse}
 
 abbrev pub refused_line : Option (ℕ × Refusal) → List ℕ
@@ -14,23 +13,19 @@ refused_line (Some r) = refusal_text r.0 r.1
 
 -- the answer is right, and this is its text
 abbrev pub IsRightFor : Asked → Answer ℕ → Type 0
-IsRightFor q a = IsRightAnswer (residue_ring q.p) (residue_numbers q.p) q.limits q.arr q.question a
+IsRightFor q a = IsRightAnswer (residue_ring q.p) (inverse_mod q.p) (residue_numbers q.p) q.limits q.arr q.question a
 
 abbrev pub text_of : Asked → Answer ℕ → List ℕ
 text_of q a = answer_text (residue_numbers q.p) q.name a
 
--- one right answer for each question, in order
-abbrev pub AreRight : List Asked → List (Answer ℕ) → Type 0
-AreRight qs answers = AllZip IsRightFor qs answers
+-- the bytes are the texts of one right answer to each question, in order
+abbrev pub AreAnswers : List Asked → List ℕ → Type 0
+AreAnswers [] bytes = bytes ≡ []
+AreAnswers (q ∷ qs) bytes = (a : Answer ℕ) × (rest : List ℕ) × IsRightFor q a × AreAnswers qs rest × (bytes ≡ text_of q a ++ rest)
 
-abbrev pub texts_of : List Asked → List (Answer ℕ) → List ℕ
-texts_of [] answers = []
-texts_of (q ∷ qs) [] = []
-texts_of (q ∷ qs) (a ∷ answers) = text_of q a ++ texts_of qs answers
-
--- the text of a course: its right answers in order, and the line of its refusal
+-- the text of a course: the answers to its questions, and the line of its refusal
 abbrev pub IsTextOf : Course → List ℕ → Type 0
-IsTextOf c text = (answers : List (Answer ℕ)) × AreRight c.questions answers × (text ≡ texts_of c.questions answers ++ refused_line c.refused)
+IsTextOf c text = (answers : List ℕ) × AreAnswers c.questions answers × (text ≡ answers ++ refused_line c.refused)
 
 -- the course up to its first k questions, and behind all of them its refusal
 abbrev pub first_questions : ℕ → Course → Course

@@ -11,13 +11,13 @@ use crate::status::Status;
 use crate::writing::refuse;
 use hp_io::Sink;
 use hp_render::Refusal;
-use hp_script::{Line, ScriptFault, parse};
+use hp_script::{Line, MAX_BYTES, ScriptFault, parse};
 use hp_session::{Before, Prelude};
 use std::alloc::Global;
 
 /// Runs a script.
 pub fn answer_script<T: Sink>(alloc: Global, script: &[u8], out: &mut T) -> Status
-    requires { length script.now ≤ 1048576 }
+    requires { length script.now ≤ MAX_BYTES }
     ensures ends { EndsScript script.now result (T.written out.old) (T.written out.new) }
     ensures counted { HasCause (T.faults out.old) (T.faults out.new) (result ≡ Status.WriteFault) }
 {

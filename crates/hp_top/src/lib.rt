@@ -8,17 +8,13 @@ ghost use Rattle.hp_top.specs.declared.status.Status.TheVariants.{WordsRefused};
 mod answers;
 mod fields;
 mod status;
-#[cfg(test)]
-mod tests;
 mod writing;
 
 use answers::answer_script;
 use hp_io::{ReadEnd, Sink, Source, read_all};
+use hp_script::MAX_BYTES;
 pub use status::Status;
 use std::alloc::Global;
-
-/// How many bytes a script may have.
-const MAX_SCRIPT: usize = 1_048_576;
 
 /// Runs the script that `src` gives, and writes its answers to `out`.
 ///
@@ -43,7 +39,7 @@ pub fn run<S: Source, T: Sink>(alloc: Global, words: &[String], src: &mut S, out
     if !words.is_empty() {
         return Status::WordsRefused;
     }
-    match read_all(alloc, src, MAX_SCRIPT) {
+    match read_all(alloc, src, MAX_BYTES) {
         Ok(script) => answer_script(alloc, &script, out),
         Err(ReadEnd::Fault) => Status::ReadFault,
         Err(ReadEnd::TooLong) => Status::TooLong,

@@ -14,7 +14,7 @@ pub enum Status {
     ReadFault,
     /// A write has failed.
     WriteFault,
-    /// The script has more than 1,048,576 bytes.
+    /// The script has more than the most bytes.
     TooLong,
     /// The words of the command line are none that are known.
     WordsRefused,

@@ -12,5 +12,5 @@ returns-in-Ok-clause-right g c =
     let none = nil_from_length c.args.words.now (eqb-true _ _ (sym c.is_empty.ensures ∙ c.if-not-is_empty.false)) in
     let no_words : map (string_bytes) c.args.words.now ≡ [] = ap (map (string_bytes)) none in
     ran_right _ (g.S.Source.left c.args.src.now) (g.S.Source.left c.read_all.new.src) (g.S.Source.faults c.args.src.now) (g.S.Source.faults c.read_all.new.src) written_before written_after (g.T.Sink.faults c.args.out.now) (g.T.Sink.faults c.answer_script.new.out) c.answer_script.result
-    c.in-Ok.script.items no_words c.in-Ok.ensures.whole c.in-Ok.ensures.short c.in-Ok.ensures.counted.never_falls c.answer_script.ensures.counted
+    c.in-Ok.script.items no_words c.in-Ok.ensures.whole c.in-Ok.ensures.short _ c.in-Ok.ensures.counted c.answer_script.ensures.counted
     (subst (λ s. EndsScript s c.answer_script.result written_before written_after) c.deref.ensures.value c.answer_script.ensures.ends)

@@ -1,5 +1,6 @@
 use Rattle.std.proofs.Common.{◌+◌, ◌≤◌, ◌<◌, length, map, get_or, arith, ℕ, List, [], Bor, sym, ap, subst}
 use Rattle.std.proofs.lemmas.Result.{err_from_is_err_and}
+use Rattle.hp_script.specs.Script.{most_bytes}
 use Rattle.hp_script.specs.Reading.{AddsLine, IsFaultAt}
 use Rattle.hp_script.proofs.Parsing.{number_small, line_within, fault_of, has_all, adds_line, text_is, is_within, is_over}
 use Rattle.hp_script.proofs.script.read.Goals as goal
@@ -15,7 +16,7 @@ with_line-requires c =
     let texts : List (List ℕ) = map (λ (x : Bor (List ℕ)). x.now) c.deref-text-items.result.now in
     let below : c.line.number < length texts = is_within c.deref-text-items.result.now c.line.number c.line.text-index c.line.invariant.counted c.line-test.true in
     let short : length (get_or texts c.line.number []) ≤ length c.args.bytes.now = line_within c.args.bytes.now texts c.line.number c.line.invariant.parsing.lines_are below in
-    subst (λ t. length t ≤ 1048576) (sym (text_is c.deref-text-items.result.now c.line.number c.line.text-index c.line.invariant.counted)) (omega (arith, short, c.requires))
+    subst (λ t. length t ≤ most_bytes) (sym (text_is c.deref-text-items.result.now c.line.number c.line.text-index c.line.invariant.counted)) (omega (arith, short, c.requires))
 
 pub returns-in_err-found-clause-fault : goal.returns-in_err-found-clause-fault
 returns-in_err-found-clause-fault c =

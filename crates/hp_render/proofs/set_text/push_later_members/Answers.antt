@@ -1,7 +1,7 @@
 use Rattle.std.proofs.Common.{rules, ◌++◌, ◌≤◌, ◌∙◌, [], ◌∷◌, ap, decimal, slice_index_or, arith, length, ◌<◌}
 use Rattle.hp_render.specs.Text.{behind_spaces}
 use Rattle.hp_render.proofs.LaterMembers.{next_member}
-use Rattle.hp_render.proofs.flat_text.push_later_members.Goals as goal
+use Rattle.hp_render.proofs.set_text.push_later_members.Goals as goal
 
 pub loop-k-preserved : goal.loop-k-preserved
 loop-k-preserved c =

@@ -1,0 +1,41 @@
+-- The table of refusals for a `let`, and a command that is stopped.
+use Rattle.std.proofs.Common.{◌≡◌, ℕ, List, [], ◌∷◌, Option, Some, None, refl, ◌∙◌}
+use Rattle.std.specs.Option.{option_and_then}
+use Rattle.hp_lists.specs.Lists.{first_some}
+use Rattle.hp_algebra.specs.Ring.{RingOf, Numbering}
+use Rattle.hp_script.specs.declared.command.Build.{Build}
+use Rattle.hp_render.specs.declared.refusal.Refusal.{Refusal}
+use Rattle.hp_script.specs.declared.command.Command.{Command}
+use Rattle.hp_script.specs.declared.command.Command.TheVariants.{Let}
+use Rattle.hp_session.specs.Building.{source_refusal, dimension_refusal, place_refusal, graph_refusal, build_fault}
+use Rattle.hp_session.specs.Refusals.{name_taken, refusal_of, refusal}
+use Rattle.hp_session.specs.State.{State}
+use Rattle.hp_session.specs.Steps.{Steps}
+use Rattle.hp_session.specs.Stops.{StopsBy, step_of, let_refusal}
+use Rattle.hp_session.specs.declared.stop.Stop.{Stop}
+use Rattle.hp_session.specs.declared.stop.Stop.TheVariants.{Refused, Memory}
+
+last_four : {X : Type 0} (a b c d e f : Option X)
+    → first_some (a ∷ b ∷ c ∷ d ∷ e ∷ f ∷ None ∷ []) ≡ first_some (a ∷ b ∷ first_some (c ∷ d ∷ e ∷ f ∷ []) ∷ [])
+last_four (Some x) b c d e f = refl
+last_four None (Some x) c d e f = refl
+last_four None None (Some x) d e f = refl
+last_four None None None (Some x) e f = refl
+last_four None None None None (Some x) f = refl
+last_four None None None None None (Some x) = refl
+last_four None None None None None None = refl
+
+module _ {K : Type 0} (ring : RingOf K) (inverse : K → K) (numbers : Numbering K) (state : State K) where
+  -- the rows that may hold for a `let`
+  pub table-let : (x : List ℕ) (b : Build)
+      → refusal ring inverse numbers state (Let x b) ≡ let_refusal ring inverse numbers state x b
+  table-let x b =
+      last_four (source_refusal state b) (name_taken state (Let x b)) (dimension_refusal state b) (place_refusal state b)
+      (graph_refusal b) (option_and_then refusal_of (build_fault ring inverse numbers state b))
+
+  -- a command that is stopped by its refusal, or by want of memory, and keeps the state
+  pub steps_stopped : (next : State K) (c : Command) (o : Option Refusal) (stop : Stop)
+      → refusal ring inverse numbers state c ≡ o → StopsBy o stop → next ≡ state
+      → Steps ring inverse numbers state c (step_of stop) next
+  steps_stopped next c o (Refused r) table by kept = (table ∙ by, kept)
+  steps_stopped next c o Memory table by kept = kept

@@ -1,0 +1,55 @@
+-- What is said of each question: whether it is answered, what is refused, and what a right answer is.
+use Rattle.std.specs.Prelude.{◌≡◌, Bool, true, false, List, ℤ, Option, None}
+use Rattle.hp_algebra.specs.Ring.{RingOf, Numbering}
+use Rattle.hp_arr.specs.Arrangement.{Arrangement, IsLeastPointOff}
+use Rattle.hp_arr.specs.Flats.{flats, total_rank}
+use Rattle.hp_arr.specs.Moebius.{poincare, characteristic}
+use Rattle.hp_arr.specs.Operations.{deletion, restriction}
+use Rattle.hp_render.specs.declared.answer.Answer.{Answer}
+use Rattle.hp_render.specs.declared.answer.Answer.TheVariants as answer
+use Rattle.hp_render.specs.declared.answer.AskWord.TheVariants as asked
+use Rattle.hp_render.specs.declared.refusal.Refusal.{Refusal}
+use Rattle.hp_script.specs.declared.command.Question.{Question}
+use Rattle.hp_script.specs.declared.command.Question.TheVariants as ask
+use Rattle.hp_session.specs.Answers.{unless_many_flats, circuits_or_limit, nbc_or_limit}
+use Rattle.hp_session.specs.Refused.{line_refusal, index_refusal}
+use Rattle.hp_session.specs.declared.limits.Limits.{Limits}
+
+-- a question that is answered so far
+abbrev pub is_built : Question → Bool
+is_built ask.Hyperplanes = true
+is_built ask.Point = true
+is_built ask.Rank = true
+is_built ask.Flats = true
+is_built ask.Poincare = true
+is_built ask.Characteristic = true
+is_built (ask.Triple i) = true
+is_built ask.Circuits = true
+is_built ask.Nbc = true
+is_built other = false
+
+-- a question that is asked of no arrangement of that dimension
+abbrev pub question_dimension : {K : Type 0} → Arrangement K → Question → Option Refusal
+question_dimension arr (ask.Triple i) = line_refusal arr
+question_dimension arr other = None
+
+-- a question with the number of a hyperplane that there is not
+abbrev pub question_index : {K : Type 0} → Arrangement K → Question → Option Refusal
+question_index arr (ask.Triple i) = index_refusal arr i
+question_index arr other = None
+
+module _ {K : Type 0} (ring : RingOf K) (inverse : K → K) (numbers : Numbering K) (limits : Limits) where
+  -- the right answers of a question about an arrangement under the limits
+  abbrev pub IsRightAnswer : Arrangement K → Question → Answer K → Type 0
+  IsRightAnswer arr ask.Hyperplanes a = a ≡ answer.Hyperplanes arr.dim arr.forms
+  IsRightAnswer arr ask.Point a = (x : List K) × IsLeastPointOff ring numbers arr x × (a ≡ answer.Point x)
+  IsRightAnswer arr ask.Rank a = a ≡ answer.Rank (total_rank ring numbers arr)
+  IsRightAnswer arr ask.Flats a = a ≡ unless_many_flats ring numbers arr asked.Flats (answer.Flats (flats ring numbers arr))
+  IsRightAnswer arr ask.Poincare a = a ≡ unless_many_flats ring numbers arr asked.Poincare (answer.Poincare (poincare ring numbers arr))
+  IsRightAnswer arr ask.Characteristic a = a ≡ unless_many_flats ring numbers arr asked.Characteristic (answer.Characteristic (characteristic ring numbers arr))
+  IsRightAnswer arr (ask.Triple i) a =
+      let pi : Arrangement K → List ℤ = poincare ring numbers in
+      a ≡ unless_many_flats ring numbers arr asked.Triple (answer.Triple (pi arr) (pi (deletion arr i)) (pi (restriction ring inverse arr i)))
+  IsRightAnswer arr ask.Circuits a = a ≡ circuits_or_limit ring numbers arr
+  IsRightAnswer arr ask.Nbc a = a ≡ nbc_or_limit ring numbers arr
+  IsRightAnswer arr other a = ⊥
