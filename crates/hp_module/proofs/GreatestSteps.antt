@@ -1,10 +1,11 @@
 -- The search for the greatest term, from the last term on.
-use Rattle.std.specs.Prelude.{◌≡◌, ◌≢◌, ◌↔◌, ℕ, List, [], ◌∷◌, true, false, IsTrue, IsNone, IfSome, MatchOption, length, All, Option, Some, None}
+use Rattle.std.specs.Prelude.{◌≡◌, ◌≢◌, ◌↔◌, ℕ, List, [], ◌∷◌, true, false, IsTrue, IsNone, IfSome, MatchOption, length, All, Option, Some, None, ◌++◌, Contains}
 use Rattle.std.specs.declared.cmp.Ordering.{Ordering}
 use Rattle.std.specs.declared.cmp.Ordering.TheVariants.{Less, Equal, Greater}
 use Rattle.std.specs.Ordering.{ordering_reverse}
 use Rattle.std.proofs.lemmas.Bool.{false≢true}
-use Rattle.std.proofs.lemmas.List.Elements.{All-cons, All-contains, All-nil, Contains-append_right}
+use Rattle.std.proofs.lemmas.List.Elements.{All-append, All-cons, All-contains, All-nil, All-head, All-tail, Contains-append_cases, Contains-append_left, Contains-append_right}
+use mathlib.Core.Logic.{inl, inr}
 use mathlib.Core.Path.{refl, sym, ap, ◌∙◌, subst}
 use native.Mathlib.Omega.{arith}
 use Rattle.hp_mono.specs.declared.term.Term.{Term}
@@ -66,3 +67,19 @@ pub greatest_term : {F : Type 0} (cmp : Term → Term → Ordering) (v : Vector 
     → IsGreatestOf cmp (terms v) lead → IfSome lead (λ l. IsGreatestTerm cmp v l.0 l.1)
 greatest_term {F} cmp v None g = tt
 greatest_term {F} cmp v (Some l) g = record { occurs = g.0; greatest = g.1 }
+
+module _ {F : Type 0} {width : ℕ} {cmp : Term → Term → Ordering} (order : IsTermOrder width cmp) where
+  -- terms below the first change nothing
+  pub widen_greatest : (t : Term × F) (cs xs : List (Term × F)) (lead : Option (Term × F)) → IsTermWithin width t.0
+      → All (λ s. IsTermWithin width s.0) cs → IfSome lead (λ l. IsTermWithin width l.0) → All (λ s. cmp s.0 t.0 ≡ Less) cs
+      → IsGreatestOf cmp (t ∷ xs) lead → IsGreatestOf cmp (t ∷ (cs ++ xs)) lead
+  widen_greatest t cs xs None ht hc hl b g = absurd (omega (arith, ap length g))
+  widen_greatest t cs xs (Some l) ht hc hl b g =
+      let N : Term × F → Type 0 = λ s. cmp l.0 s.0 ≢ Less in
+      let first = All-head N t xs g.1 in
+      let middle : All N cs = λ i d h e. first (order.transitive l.0 _ t.0 hl (hc i d h) ht e (b i d h)) in
+      let found : Contains (t ∷ (cs ++ xs)) l = elim (Contains-append_cases (t ∷ []) xs l g.0) [
+        | inl c ↦ Contains-append_left (t ∷ []) (cs ++ xs) l c
+        | inr c ↦ Contains-append_right (t ∷ []) (cs ++ xs) l (Contains-append_right cs xs l c)
+      ] in
+      (found, All-cons N t (cs ++ xs) first (All-append N cs xs middle (All-tail N t xs g.1)))

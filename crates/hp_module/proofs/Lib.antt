@@ -1,8 +1,12 @@
 pub mod BasisLeads
+pub mod CollectedParts
+pub mod ComponentOrders
 pub mod Criterion
+pub mod DividedParts
 pub mod DividingTerms
 pub mod DivisionForms
 pub mod DivisionSteps
+pub mod DivisorLists
 pub mod EntryLoops
 pub mod EntryTerms
 pub mod ExchangedGenerators
@@ -11,6 +15,8 @@ pub mod GreatestSteps
 pub mod GreatestTerms
 pub mod GroebnerBases
 pub mod GroebnerLaw
+pub mod HeldDivisions
+pub mod HeldParts
 pub mod HomogeneousParts
 pub mod InducedOrder
 pub mod KeptVectors

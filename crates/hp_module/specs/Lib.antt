@@ -1,7 +1,9 @@
 pub mod CriticalPairs
+pub mod Derivations
 pub mod Divisions
 pub mod ElimOrders
 pub mod EliminationLaws
+pub mod FallingTerms
 pub mod FreeModules
 pub mod InducedOrders
 pub mod LeadSearch

@@ -196,7 +196,11 @@ fn greatest<F: Field, O: TermOrder>(
 }
 
 /// Whether the term is above the other, as it is where there is none.
-fn is_above<F: Field, O: TermOrder>(order: &O, t: &Term, other: &Option<(Term, F)>) -> bool
+pub(crate) fn is_above<F: Field, O: TermOrder>(
+    order: &O,
+    t: &Term,
+    other: &Option<(Term, F)>,
+) -> bool
     requires counted { 1 ≤ t.now.comp }
     requires within { t.now.comp ≤ O.components order.now }
     requires other { IfSome other.now (λ l. IsTermWithin (O.components order.now) l.0) }

@@ -61,7 +61,7 @@ module _ {F : Type 0} {ring : RingOf F} {inverse : F → F} (field : IsField rin
 
   -- ---- multiples
 
-  product_nonzero : (c d : F) → ring.IsValue c → c ≢ ring.zero → ring.IsValue d → d ≢ ring.zero
+  pub product_nonzero : (c d : F) → ring.IsValue c → c ≢ ring.zero → ring.IsValue d → d ≢ ring.zero
       → ring.mul c d ≢ ring.zero
   product_nonzero c d v n w m e = elim ((field-domain field).no_zero_divisors c d v w e) [ inl z ↦ n z | inr z ↦ m z ]
 
