@@ -1,4 +1,5 @@
 pub mod AomotoDimensions
 pub mod AomotoNumbers
+pub mod FormSums
 pub mod NbcCoordinates
 pub mod OneForms
