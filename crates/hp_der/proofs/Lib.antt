@@ -1,0 +1,14 @@
+pub mod BlockSteps
+pub mod DegreeRanges
+pub mod DerivationBases
+pub mod Eliminations
+pub mod ExtendedGenerators
+pub mod ExtendedModules
+pub mod FirstForms
+pub mod KeptSteps
+pub mod PairRows
+pub mod PreparedBases
+pub mod PreparedPairs
+pub mod RangeSteps
+pub mod RowConstants
+pub mod SecondBlocks

@@ -1,0 +1,2 @@
+pub mod BasisSettings
+pub mod DerivationModules

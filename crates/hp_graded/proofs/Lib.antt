@@ -1,0 +1,13 @@
+pub mod BasisMembers
+pub mod ConstantRows
+pub mod DivisionExistence
+pub mod ExponentTails
+pub mod FirstVariables
+pub mod IrredundantLists
+pub mod LastConstants
+pub mod PartSums
+pub mod PivotMembers
+pub mod PivotPlaces
+pub mod ReducedSubsets
+pub mod ReducedTerms
+pub mod SelectedTerms

@@ -1,0 +1,2 @@
+pub mod MinimalGenerators
+pub mod RelationConstants
