@@ -1,0 +1,8 @@
+//! Resolutions over the polynomials: exact complexes of homogeneous maps, with a degree for each row, and minimal ones.
+#![tactic(auto)]
+
+mod frame;
+mod minimal;
+
+pub use frame::Frame;
+pub use minimal::MinRes;

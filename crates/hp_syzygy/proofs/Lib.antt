@@ -1,0 +1,17 @@
+pub mod AgreeingOrders
+pub mod DividingTermTests
+pub mod FirstExponents
+pub mod FirstLevels
+pub mod FirstQuotients
+pub mod FrameSteps
+pub mod KeptPairs
+pub mod KeptTerms
+pub mod LastNumbers
+pub mod LeadExponents
+pub mod LevelDegrees
+pub mod LevelDivisors
+pub mod NegatedFirsts
+pub mod NextChains
+pub mod NextLevels
+pub mod PairQuotients
+pub mod RankLaws
