@@ -1,0 +1,3 @@
+pub mod Grids
+pub mod Minimised
+pub mod Reductions
