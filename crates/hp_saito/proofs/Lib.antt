@@ -1,0 +1,10 @@
+pub mod ConstantRelations
+pub mod DefiningMultiples
+pub mod DomainDependence
+pub mod FreeBases
+pub mod FreeResolutions
+pub mod RelationParts
+pub mod RingImages
+pub mod SpannedMultiples
+pub mod UnitSpans
+pub mod ValueRows
