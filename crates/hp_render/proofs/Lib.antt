@@ -1,1 +1,4 @@
 mod LaterMembers
+mod NextGenerator
+mod NextPower
+mod GreatestDegree

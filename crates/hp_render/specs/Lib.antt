@@ -1,1 +1,3 @@
+pub mod AnswerWords
 pub mod Text
+pub mod VectorText

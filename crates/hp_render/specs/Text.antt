@@ -4,45 +4,16 @@ use Rattle.std.specs.Fmt.{signed_decimal}
 use Rattle.hp_algebra.specs.Ring.{Numbering}
 use Rattle.hp_sets.specs.Sets.{Set}
 use Rattle.hp_sets.specs.declared.flat.Flat.{Flat}
+pub use Rattle.hp_render.specs.AnswerWords.{behind_spaces, spaced, word_text, head}
+use Rattle.hp_render.specs.VectorText.{vectors_text}
 use Rattle.hp_render.specs.declared.answer.Answer.{Answer}
-use Rattle.hp_render.specs.declared.answer.Answer.TheVariants.{Hyperplanes, Point, Rank, Flats, Poincare, Characteristic, Triple, Circuits, Nbc, Limit}
+use Rattle.hp_render.specs.declared.answer.Answer.TheVariants.{Hyperplanes, Point, Rank, Flats, Poincare, Characteristic, Triple, Circuits, Nbc, Normal, Aomoto, Gb, Der, Limit}
 use Rattle.hp_render.specs.declared.answer.LimitKind.{LimitKind}
 use Rattle.hp_render.specs.declared.answer.LimitKind.TheVariants as limit
 use Rattle.hp_render.specs.declared.answer.AskWord.{AskWord}
 use Rattle.hp_render.specs.declared.answer.AskWord.TheVariants as asked
 use Rattle.hp_render.specs.declared.refusal.Refusal.{Refusal}
 use Rattle.hp_render.specs.declared.refusal.Refusal.TheVariants.{Syntax, NoField, FieldTwice, FieldNotListed, UnknownName, NameTaken, Dimension, BadIndex, BadGraph, ZeroForm, Repeated, TooMany, BadList, BadLimit, NotBuilt}
-
--- each piece with a space (32) before it
-abbrev pub behind_spaces : List (List ℕ) → List ℕ
-behind_spaces pieces = flat_map (λ piece. 32 ∷ piece) pieces
-
--- the pieces with a space between each two
-abbrev pub spaced : List (List ℕ) → List ℕ
-spaced [] = []
-spaced (piece ∷ pieces) = piece ++ behind_spaces pieces
-
--- the word of a question
-abbrev pub word_text : AskWord → List ℕ
-word_text asked.Hyperplanes = codes "hyperplanes"
-word_text asked.Point = codes "point"
-word_text asked.Rank = codes "rank"
-word_text asked.Flats = codes "flats"
-word_text asked.Poincare = codes "poincare"
-word_text asked.Characteristic = codes "characteristic"
-word_text asked.Triple = codes "triple"
-word_text asked.Circuits = codes "circuits"
-word_text asked.Nbc = codes "nbc"
-word_text asked.Normal = codes "normal"
-word_text asked.Aomoto = codes "aomoto"
-word_text asked.Gb = codes "gb"
-word_text asked.Der = codes "der"
-word_text asked.Resolve = codes "resolve"
-word_text asked.Free = codes "free"
-
--- the head of an answer: the word that was asked, the name and a colon
-abbrev pub head : AskWord → List ℕ → List ℕ
-head word name = word_text word ++ codes " " ++ name ++ codes ":"
 
 -- a set: its members between braces
 abbrev pub set_text : Set → List ℕ
@@ -81,11 +52,22 @@ abbrev pub triple_text : List ℕ → List ℤ → List ℤ → List ℤ → Lis
 triple_text name whole deleted restricted =
     head asked.Triple name ++ 10 ∷ [] ++ codes "whole:" ++ coefficients whole ++ codes "deleted:" ++ coefficients deleted ++ codes "restricted:" ++ coefficients restricted
 
+-- a generator e_i behind what it is multiplied with
+abbrev pub generator_text : ℕ → List ℕ
+generator_text i = codes "*e" ++ decimal i
+
+-- the dimensions behind the head
+abbrev pub aomoto_text : List ℕ → List ℕ → List ℕ
+aomoto_text name dimensions = head asked.Aomoto name ++ behind_spaces (map decimal dimensions) ++ 10 ∷ []
+
 -- the word of a limit
 abbrev pub limit_word : LimitKind → List ℕ
 limit_word limit.Flats = codes "flats"
 limit_word limit.Circuits = codes "circuits"
 limit_word limit.Nbc = codes "nbc"
+limit_word limit.Aomoto = codes "aomoto"
+limit_word limit.Pairs = codes "pairs"
+limit_word limit.Degree = codes "degree"
 
 -- the limit behind the head of what was asked
 abbrev pub limit_text : List ℕ → AskWord → LimitKind → List ℕ
@@ -109,6 +91,23 @@ module _ {K : Type 0} (numbers : Numbering K) where
   abbrev pub point_text : List ℕ → List K → List ℕ
   point_text name x = head asked.Point name ++ behind_spaces (map element_text x) ++ 10 ∷ []
 
+  -- a term of the exterior algebra: its coefficient, and its generators in rising order
+  abbrev pub term_text : Set × K → List ℕ
+  term_text t = element_text t.1 ++ flat_map generator_text t.0
+
+  -- a term behind another one
+  abbrev pub later_term_text : Set × K → List ℕ
+  later_term_text t = codes " + " ++ term_text t
+
+  -- an element of the exterior algebra: its terms with ` + ` between each two
+  abbrev pub exterior_text : List (Set × K) → List ℕ
+  exterior_text [] = codes "0"
+  exterior_text (t ∷ ts) = term_text t ++ flat_map later_term_text ts
+
+  -- the element behind the head
+  abbrev pub normal_text : List ℕ → List (Set × K) → List ℕ
+  normal_text name x = head asked.Normal name ++ codes " " ++ exterior_text x ++ 10 ∷ []
+
   abbrev pub answer_text : List ℕ → Answer K → List ℕ
   answer_text name (Hyperplanes dim forms) = hyperplanes_text name dim forms
   answer_text name (Point x) = point_text name x
@@ -119,6 +118,10 @@ module _ {K : Type 0} (numbers : Numbering K) where
   answer_text name (Triple whole deleted restricted) = triple_text name whole deleted restricted
   answer_text name (Circuits sets) = sets_text asked.Circuits name sets
   answer_text name (Nbc sets) = sets_text asked.Nbc name sets
+  answer_text name (Normal x) = normal_text name x
+  answer_text name (Aomoto dimensions) = aomoto_text name dimensions
+  answer_text name (Gb vs) = vectors_text numbers asked.Gb name vs
+  answer_text name (Der vs) = vectors_text numbers asked.Der name vs
   answer_text name (Limit word kind) = limit_text name word kind
 
 abbrev pub refusal_words : Refusal → List ℕ

@@ -1,6 +1,7 @@
 //! What a question may be answered.
 
 use hp_algebra::List;
+use hp_mono::Mono;
 use hp_sets::{Flat, HSet};
 
 /// The word of a question.
@@ -29,6 +30,9 @@ pub enum LimitKind {
     Flats,
     Circuits,
     Nbc,
+    Aomoto,
+    Pairs,
+    Degree,
 }
 
 /// An answer about an arrangement over the field `K`.
@@ -59,6 +63,14 @@ pub enum Answer<K> {
     Circuits(List<HSet>),
     /// Sets of hyperplanes: those that contain no broken circuit.
     Nbc(List<HSet>),
+    /// An element of the exterior algebra: its terms in the order in which sets are listed.
+    Normal(List<(HSet, K)>),
+    /// Dimensions of cohomology, from degree 0.
+    Aomoto(List<u32>),
+    /// Vectors of polynomials, each entry by its terms from the greatest: the reduced Gröbner basis of derivations.
+    Gb(List<List<List<(Mono, K)>>>),
+    /// The same of minimal generators of derivations.
+    Der(List<List<List<(Mono, K)>>>),
     /// The question that was asked met this limit.
     Limit {
         asked: AskWord,

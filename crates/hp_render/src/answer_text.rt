@@ -4,11 +4,13 @@ ghost use Rattle.std.specs.Prelude.{◌≡◌, ◌++◌, flat_map, IfOk, OnOk, O
 ghost use Rattle.hp_render.specs.Text.{answer_text, elements_line, hyperplanes_text, point_text, rank_text};
 
 use crate::answer::{Answer, AskWord};
+use crate::exterior_text::{aomoto_text, normal_text};
 use crate::flat_text::flats_text;
 use crate::limit_text::limit_text;
 use crate::numbers::{push_behind_spaces, push_spaced};
 use crate::polynomial_text::{polynomial_text, triple_text};
 use crate::set_text::sets_text;
+use crate::vector_text::vectors_text;
 use hp_algebra::{FiniteField, List, NoMem};
 use hp_script::Name;
 use itoa::Buffer;
@@ -54,6 +56,10 @@ fn text_of<K: FiniteField>(alloc: Global, answer: &Answer<K>, name: &Name) -> Re
         ),
         Answer::Circuits(sets) => sets_text(alloc, AskWord::Circuits, name, sets.as_slice()),
         Answer::Nbc(sets) => sets_text(alloc, AskWord::Nbc, name, sets.as_slice()),
+        Answer::Normal(terms) => normal_text(alloc, name, terms.as_slice()),
+        Answer::Aomoto(dimensions) => aomoto_text(alloc, name, dimensions.as_slice()),
+        Answer::Gb(vectors) => vectors_text(alloc, AskWord::Gb, name, vectors.as_slice()),
+        Answer::Der(vectors) => vectors_text(alloc, AskWord::Der, name, vectors.as_slice()),
         Answer::Limit { asked, kind } => limit_text(alloc, name, *asked, *kind),
     }
 }

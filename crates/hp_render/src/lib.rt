@@ -3,6 +3,7 @@
 
 mod answer;
 mod answer_text;
+mod exterior_text;
 mod flat_text;
 mod limit_text;
 mod numbers;
@@ -10,6 +11,7 @@ mod polynomial_text;
 mod refusal;
 mod refusal_text;
 mod set_text;
+mod vector_text;
 
 pub use answer::{Answer, AskWord, LimitKind};
 pub use answer_text::render;

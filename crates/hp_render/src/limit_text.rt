@@ -57,5 +57,8 @@ fn limit_of(kind: LimitKind) -> &'static [u8]
         LimitKind::Flats => b"flats",
         LimitKind::Circuits => b"circuits",
         LimitKind::Nbc => b"nbc",
+        LimitKind::Aomoto => b"aomoto",
+        LimitKind::Pairs => b"pairs",
+        LimitKind::Degree => b"degree",
     }
 }

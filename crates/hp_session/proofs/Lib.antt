@@ -1,4 +1,9 @@
+pub mod ExpressionElements
+pub mod ExpressionValues
 pub mod Forms
+pub mod GeneratorRefusals
 pub mod Lookups
 pub mod Ranks
 pub mod Tables
+mod MultiplicityBounds
+mod DerivationLimits

@@ -6,17 +6,20 @@ use Rattle.hp_algebra.specs.Ring.{RingOf, Numbering}
 use Rattle.hp_script.specs.declared.command.Build.{Build}
 use Rattle.hp_render.specs.declared.refusal.Refusal.{Refusal}
 use Rattle.hp_script.specs.declared.command.Command.{Command}
-use Rattle.hp_script.specs.declared.command.Command.TheVariants.{Let}
+use Rattle.hp_script.specs.declared.command.Command.TheVariants.{Let, Ask}
+use Rattle.hp_script.specs.declared.command.Question.{Question}
+use Rattle.hp_session.specs.Questions.{question_dimension, question_index, question_list}
+use Rattle.hp_session.specs.Refused.{unknown_refusal}
 use Rattle.hp_session.specs.Building.{source_refusal, dimension_refusal, place_refusal, graph_refusal, build_fault}
-use Rattle.hp_session.specs.Refusals.{name_taken, refusal_of, refusal}
-use Rattle.hp_session.specs.State.{State}
+use Rattle.hp_session.specs.Refusals.{not_built, name_taken, refusal_of, refusal}
+use Rattle.hp_session.specs.State.{State, named}
 use Rattle.hp_session.specs.Steps.{Steps}
-use Rattle.hp_session.specs.Stops.{StopsBy, step_of, let_refusal}
+use Rattle.hp_session.specs.Stops.{StopsBy, step_of, let_refusal, ask_refusal}
 use Rattle.hp_session.specs.declared.stop.Stop.{Stop}
 use Rattle.hp_session.specs.declared.stop.Stop.TheVariants.{Refused, Memory}
 
 last_four : {X : Type 0} (a b c d e f : Option X)
-    → first_some (a ∷ b ∷ c ∷ d ∷ e ∷ f ∷ None ∷ []) ≡ first_some (a ∷ b ∷ first_some (c ∷ d ∷ e ∷ f ∷ []) ∷ [])
+    → first_some (a ∷ b ∷ c ∷ d ∷ e ∷ f ∷ None ∷ None ∷ []) ≡ first_some (a ∷ b ∷ first_some (c ∷ d ∷ e ∷ f ∷ []) ∷ [])
 last_four (Some x) b c d e f = refl
 last_four None (Some x) c d e f = refl
 last_four None None (Some x) d e f = refl
@@ -25,6 +28,16 @@ last_four None None None None (Some x) f = refl
 last_four None None None None None (Some x) = refl
 last_four None None None None None None = refl
 
+of_question : {X : Type 0} (a b c d e : Option X)
+    → first_some (a ∷ None ∷ b ∷ None ∷ c ∷ d ∷ None ∷ None ∷ e ∷ None ∷ [])
+    ≡ first_some (a ∷ b ∷ first_some (c ∷ d ∷ e ∷ []) ∷ [])
+of_question (Some x) b c d e = refl
+of_question None (Some x) c d e = refl
+of_question None None (Some x) d e = refl
+of_question None None None (Some x) e = refl
+of_question None None None None (Some x) = refl
+of_question None None None None None = refl
+
 module _ {K : Type 0} (ring : RingOf K) (inverse : K → K) (numbers : Numbering K) (state : State K) where
   -- the rows that may hold for a `let`
   pub table-let : (x : List ℕ) (b : Build)
@@ -32,6 +45,13 @@ module _ {K : Type 0} (ring : RingOf K) (inverse : K → K) (numbers : Numbering
   table-let x b =
       last_four (source_refusal state b) (name_taken state (Let x b)) (dimension_refusal state b) (place_refusal state b)
       (graph_refusal b) (option_and_then refusal_of (build_fault ring inverse numbers state b))
+
+  -- the rows that may hold for a question
+  pub table-ask : (x : List ℕ) (q : Question)
+      → refusal ring inverse numbers state (Ask x q) ≡ ask_refusal state x q
+  table-ask x q =
+      of_question (not_built (Ask x q)) (unknown_refusal state x) (question_dimension (named state x) q)
+      (question_index (named state x) q) (question_list (named state x) q)
 
   -- a command that is stopped by its refusal, or by want of memory, and keeps the state
   pub steps_stopped : (next : State K) (c : Command) (o : Option Refusal) (stop : Stop)

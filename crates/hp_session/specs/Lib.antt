@@ -1,5 +1,8 @@
 pub mod Answers
 pub mod Building
+pub mod DerivationAnswers
+pub mod Expressions
+pub mod Multiplicities
 pub mod Questions
 pub mod Refusals
 pub mod Refused

@@ -5,15 +5,20 @@ use Rattle.hp_arr.specs.Arrangement.{Arrangement, IsLeastPointOff}
 use Rattle.hp_arr.specs.Flats.{flats, total_rank}
 use Rattle.hp_arr.specs.Moebius.{poincare, characteristic}
 use Rattle.hp_arr.specs.Operations.{deletion, restriction}
+use Rattle.hp_exterior.specs.Exterior.{Ext}
+use Rattle.hp_os.specs.OrlikSolomon.{IsNormalForm}
 use Rattle.hp_render.specs.declared.answer.Answer.{Answer}
 use Rattle.hp_render.specs.declared.answer.Answer.TheVariants as answer
 use Rattle.hp_render.specs.declared.answer.AskWord.TheVariants as asked
 use Rattle.hp_render.specs.declared.refusal.Refusal.{Refusal}
 use Rattle.hp_script.specs.declared.command.Question.{Question}
 use Rattle.hp_script.specs.declared.command.Question.TheVariants as ask
-use Rattle.hp_session.specs.Answers.{unless_many_flats, circuits_or_limit, nbc_or_limit}
-use Rattle.hp_session.specs.Refused.{line_refusal, index_refusal}
-use Rattle.hp_session.specs.declared.limits.Limits.{Limits}
+use Rattle.hp_session.specs.Answers.{unless_many_flats, circuits_or_limit, nbc_or_limit, AreAomotoNumbersOrLimit}
+use Rattle.hp_session.specs.DerivationAnswers.{UnlessStopped, IsBasisAnswer, IsGeneratorsAnswer}
+use Rattle.hp_session.specs.Expressions.{expression_value}
+use Rattle.hp_session.specs.Multiplicities.{multiplicities, multiplicities_refusal}
+use Rattle.hp_session.specs.Refused.{line_refusal, index_refusal, expression_refusal, weights_refusal}
+use Rattle.hp_groebner.specs.declared.limits.Limits.{Limits}
 
 -- a question that is answered so far
 abbrev pub is_built : Question → Bool
@@ -26,6 +31,10 @@ is_built ask.Characteristic = true
 is_built (ask.Triple i) = true
 is_built ask.Circuits = true
 is_built ask.Nbc = true
+is_built (ask.Normal products) = true
+is_built (ask.Aomoto weights) = true
+is_built (ask.Gb row) = true
+is_built (ask.Der row) = true
 is_built other = false
 
 -- a question that is asked of no arrangement of that dimension
@@ -36,7 +45,15 @@ question_dimension arr other = None
 -- a question with the number of a hyperplane that there is not
 abbrev pub question_index : {K : Type 0} → Arrangement K → Question → Option Refusal
 question_index arr (ask.Triple i) = index_refusal arr i
+question_index arr (ask.Normal products) = expression_refusal arr products
 question_index arr other = None
+
+-- a question with a list that has not as many numbers as there are hyperplanes, or with numbers that are no multiplicities
+abbrev pub question_list : {K : Type 0} → Arrangement K → Question → Option Refusal
+question_list arr (ask.Aomoto weights) = weights_refusal arr weights
+question_list arr (ask.Gb row) = multiplicities_refusal arr row
+question_list arr (ask.Der row) = multiplicities_refusal arr row
+question_list arr other = None
 
 module _ {K : Type 0} (ring : RingOf K) (inverse : K → K) (numbers : Numbering K) (limits : Limits) where
   -- the right answers of a question about an arrangement under the limits
@@ -52,4 +69,13 @@ module _ {K : Type 0} (ring : RingOf K) (inverse : K → K) (numbers : Numbering
       a ≡ unless_many_flats ring numbers arr asked.Triple (answer.Triple (pi arr) (pi (deletion arr i)) (pi (restriction ring inverse arr i)))
   IsRightAnswer arr ask.Circuits a = a ≡ circuits_or_limit ring numbers arr
   IsRightAnswer arr ask.Nbc a = a ≡ nbc_or_limit ring numbers arr
+  IsRightAnswer arr (ask.Normal products) a =
+      (r : Ext K) × IsNormalForm ring numbers arr (expression_value ring products) r × (a ≡ answer.Normal r)
+  IsRightAnswer arr (ask.Aomoto weights) a = AreAomotoNumbersOrLimit ring numbers arr weights a
+  IsRightAnswer arr (ask.Gb row) a =
+      let mult = multiplicities arr row in
+      UnlessStopped ring arr mult limits asked.Gb (IsBasisAnswer ring arr mult) a
+  IsRightAnswer arr (ask.Der row) a =
+      let mult = multiplicities arr row in
+      UnlessStopped ring arr mult limits asked.Der (IsGeneratorsAnswer ring arr mult) a
   IsRightAnswer arr other a = ⊥

@@ -12,7 +12,7 @@ use Rattle.hp_render.specs.declared.refusal.Refusal.TheVariants.{NotBuilt, NoFie
 use Rattle.hp_script.specs.declared.command.Command.{Command}
 use Rattle.hp_script.specs.declared.command.Command.TheVariants.{Field, Let, LimitPairs, LimitDegree, Ask}
 use Rattle.hp_session.specs.Building.{source_refusal, dimension_refusal, place_refusal, graph_refusal, build_fault}
-use Rattle.hp_session.specs.Questions.{is_built, question_dimension, question_index}
+use Rattle.hp_session.specs.Questions.{is_built, question_dimension, question_index, question_list}
 use Rattle.hp_session.specs.Refused.{where_true, unknown_refusal}
 use Rattle.hp_session.specs.State.{State, is_unknown, named, most_pairs, most_degree}
 
@@ -75,6 +75,11 @@ module _ {K : Type 0} (state : State K) where
   bad_index (Ask x q) = question_index (named state x) q
   bad_index other = None
 
+  -- `bad list`: the list of a question has not as many numbers as there are hyperplanes, or a multiplicity is not from 0 to 20
+  abbrev pub bad_list : Command → Option Refusal
+  bad_list (Ask x q) = question_list (named state x) q
+  bad_list other = None
+
 -- `bad graph`: an edge is a loop, has an end that is no vertex, or joins what an earlier one joins
 abbrev pub bad_graph : Command → Option Refusal
 bad_graph (Let x b) = graph_refusal b
@@ -96,6 +101,7 @@ module _ {K : Type 0} (ring : RingOf K) (inverse : K → K) (numbers : Numbering
       ∷ bad_index state c
       ∷ bad_graph c
       ∷ bad_forms c
+      ∷ bad_list state c
       ∷ bad_limit c
       ∷ [])
 

@@ -1,24 +1,14 @@
 -- The state of a script once a field is chosen: the limits, and the arrangements by name.
-use Rattle.std.specs.Prelude.{ℕ, ◌≤◌, nat_eq, Bool, if◌then◌else◌, List, [], ◌∷◌, Option, Some, None, is_none}
+use Rattle.std.specs.Prelude.{ℕ, nat_eq, Bool, if◌then◌else◌, List, [], ◌∷◌, Option, Some, None, is_none}
 use Rattle.std.specs.Option.{unwrap_or}
 use Rattle.std.specs.Cmp.Lexicographic.{pointwise}
 use Rattle.hp_arr.specs.Arrangement.{Arrangement}
-use Rattle.hp_session.specs.declared.limits.Limits.{Limits}
+use Rattle.hp_groebner.specs.declared.limits.Limits.{Limits}
+pub use Rattle.hp_groebner.specs.LimitRules.{AreLimits, most_pairs, most_degree}
 
--- the greatest limits, and the first ones
-abbrev pub most_pairs : ℕ
-most_pairs = 1000000
-
-abbrev pub most_degree : ℕ
-most_degree = 240
-
+-- the first limits
 abbrev pub first_limits : Limits
 first_limits = record { pairs = 100000; degree = 240 }
-
--- the limits are within their ranges
-pub record AreLimits (limits : Limits) : Type 0 where
-  pub pairs : limits.pairs ≤ most_pairs
-  pub degree : limits.degree ≤ most_degree
 
 -- The limits, and the arrangements with their names in the order in which they were named.
 pub record State (K : Type 0) : Type 0 where

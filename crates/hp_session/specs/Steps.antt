@@ -8,7 +8,7 @@ use Rattle.hp_session.specs.Building.{built}
 use Rattle.hp_session.specs.Questions.{IsRightAnswer}
 use Rattle.hp_session.specs.Refusals.{refusal_before_field, refusal}
 use Rattle.hp_session.specs.State.{State, named}
-use Rattle.hp_session.specs.declared.limits.Limits.{Limits}
+use Rattle.hp_groebner.specs.declared.limits.Limits.{Limits}
 use Rattle.hp_session.specs.declared.prelude.Before.{Before}
 use Rattle.hp_session.specs.declared.prelude.Before.TheVariants as before
 use Rattle.hp_session.specs.declared.session.Step.{Step}

@@ -16,7 +16,7 @@ use Rattle.hp_script.specs.declared.command.Build.{Build}
 use Rattle.hp_script.specs.declared.command.Command.TheVariants.{Ask}
 use Rattle.hp_script.specs.declared.command.Question.{Question}
 use Rattle.hp_session.specs.Building.{source_refusal, dimension_refusal, place_refusal, graph_refusal, build_fault}
-use Rattle.hp_session.specs.Questions.{question_dimension, question_index}
+use Rattle.hp_session.specs.Questions.{question_dimension, question_index, question_list}
 use Rattle.hp_session.specs.Refusals.{not_built, refusal_of}
 use Rattle.hp_session.specs.Refused.{where_true, unknown_refusal}
 use Rattle.hp_session.specs.State.{State, is_unknown, named}
@@ -66,7 +66,7 @@ module _ {K : Type 0} (ring : RingOf K) (inverse : K → K) (numbers : Numbering
 
 -- the refusal of a question about an arrangement
 abbrev pub question_refusal : {K : Type 0} → Arrangement K → Question → Option Refusal
-question_refusal arr q = first_some (question_dimension arr q ∷ question_index arr q ∷ [])
+question_refusal arr q = first_some (question_dimension arr q ∷ question_index arr q ∷ question_list arr q ∷ [])
 
 -- the refusal of a question about an arrangement of that name
 abbrev pub ask_refusal : {K : Type 0} → State K → List ℕ → Question → Option Refusal

@@ -4,26 +4,36 @@ ghost use Rattle.std.specs.Prelude.{◌≡◌, true, None, IfOk, IfErr, OnOk};
 ghost use Rattle.hp_arr.specs.Flats.{flats, total_rank};
 ghost use Rattle.hp_arr.specs.Moebius.{characteristic, poincare};
 ghost use Rattle.hp_arr.specs.Operations.{deletion, restriction};
+ghost use Rattle.hp_exterior.specs.Exterior.{Ext as ExtOf};
+ghost use Rattle.hp_os.specs.OrlikSolomon.{IsElement, IsNormalForm};
 ghost use Rattle.hp_render.specs.declared.answer.Answer.{Answer};
 ghost use Rattle.hp_script.specs.Lists.{QuestionIsShort};
 ghost use Rattle.hp_script.specs.declared.command.Command.TheVariants.{Ask};
 ghost use Rattle.hp_script.specs.declared.command.Question.{Question};
-ghost use Rattle.hp_session.specs.Answers.{unless_many_flats, circuits_or_limit, nbc_or_limit};
+ghost use Rattle.hp_session.specs.Answers.{unless_many_flats, circuits_or_limit, nbc_or_limit, AreAomotoNumbersOrLimit};
+ghost use Rattle.hp_session.specs.Expressions.{expression_value};
+ghost use Rattle.hp_groebner.specs.LimitRules.{AreLimits};
 ghost use Rattle.hp_session.specs.Questions.{is_built, IsRightAnswer};
+ghost use Rattle.hp_session.specs.Refused.{expression_refusal, weights_refusal};
 ghost use Rattle.hp_session.specs.Steps.{Answers};
 ghost use Rattle.hp_session.specs.Stops.{StopsBy, ask_refusal, question_refusal};
 
-use crate::building::index;
-use crate::limits::Limits;
+use crate::building::{elements_of, index};
+use crate::derivations::{der, gb};
+use crate::expressions::expression;
 use crate::questions::is_built;
 use crate::session::Session;
 use crate::stop::Stop;
 use hp_algebra::{FiniteField, List, NoMem};
+use hp_aomoto::AomotoStop;
 use hp_arr::Arr;
 use hp_circuits::{CircuitStop, NbcStop};
+use hp_exterior::Ext;
 use hp_flats::FlatStop;
+use hp_groebner::Limits;
+use hp_os::normal_form;
 use hp_render::{Answer, AskWord, LimitKind, Refusal};
-use hp_script::{Name, Question};
+use hp_script::{Name, Product, Question};
 use hp_sets::HSet;
 use std::alloc::Global;
 
@@ -55,6 +65,7 @@ fn answer<K: FiniteField>(
 ) -> Result<Answer<K>, Stop>
     requires short { QuestionIsShort question.now }
     requires built { is_built question.now ≡ true }
+    requires limits { AreLimits limits }
     ensures accepted { OnOk result (question_refusal arr.now question.now ≡ None) }
     ensures right { IfOk result (IsRightAnswer K.ring K.inverse K.numbers limits arr.now question.now) }
     ensures stop { IfErr result (StopsBy (question_refusal arr.now question.now)) }
@@ -69,6 +80,10 @@ fn answer<K: FiniteField>(
         Question::Triple(i) => triple(alloc, arr, *i),
         Question::Circuits => Ok(circuits(alloc, arr)?),
         Question::Nbc => Ok(nbc(alloc, arr)?),
+        Question::Normal(products) => normal(alloc, arr, products.as_slice()),
+        Question::Aomoto(weights) => aomoto(alloc, arr, weights.numbers()),
+        Question::Gb(row) => gb(alloc, &limits, arr, row),
+        Question::Der(row) => der(alloc, &limits, arr, row),
         _ => unreachable!(),
     }
 }
@@ -176,6 +191,50 @@ fn nbc<K: FiniteField>(alloc: Global, arr: &Arr<K>) -> Result<Answer<K>, NoMem>
             kind: LimitKind::Nbc,
         }),
         Err(NbcStop::Memory) => Err(NoMem),
+    }
+}
+
+/// The normal form of the value of an expression.
+fn normal<K: FiniteField>(
+    alloc: Global,
+    arr: &Arr<K>,
+    products: &[Product],
+) -> Result<Answer<K>, Stop>
+    ensures accepted { OnOk result (expression_refusal arr.now products.now ≡ None) }
+    ensures right { IfOk result (λ a. (r : ExtOf K) × IsNormalForm K.ring K.numbers arr.now (expression_value K.ring products.now) r × (a ≡ Answer.Normal r)) }
+    ensures stop { IfErr result (StopsBy (expression_refusal arr.now products.now)) }
+{
+    let value = expression(alloc, arr, products)?;
+    Ok(reduced(alloc, arr, &value)?)
+}
+
+/// The normal form of an element.
+fn reduced<K: FiniteField>(alloc: Global, arr: &Arr<K>, x: &Ext<K>) -> Result<Answer<K>, NoMem>
+    requires { IsElement K.ring K.numbers arr.now x.now }
+    ensures { IfOk result (λ a. (r : ExtOf K) × IsNormalForm K.ring K.numbers arr.now x.now r × (a ≡ Answer.Normal r)) }
+{
+    let form = normal_form(alloc, arr, x)?;
+    Ok(Answer::Normal(List::of(Vec::from_slice(alloc, form.terms())?)))
+}
+
+/// The dimensions of the cohomology of the Aomoto complex with these weights, or that of some size there are too many
+/// sets that contain no broken circuit.
+fn aomoto<K: FiniteField>(alloc: Global, arr: &Arr<K>, weights: &[i64]) -> Result<Answer<K>, Stop>
+    ensures accepted { OnOk result (weights_refusal arr.now weights.now ≡ None) }
+    ensures right { IfOk result (AreAomotoNumbersOrLimit K.ring K.numbers arr.now weights.now) }
+    ensures stop { IfErr result (StopsBy (weights_refusal arr.now weights.now)) }
+{
+    if weights.len() != arr.len() as usize {
+        return Err(Stop::Refused(Refusal::BadList));
+    }
+    let elements = elements_of(alloc, weights)?;
+    match hp_aomoto::aomoto(alloc, arr, elements.as_slice()) {
+        Ok(dimensions) => Ok(Answer::Aomoto(List::of(dimensions))),
+        Err(AomotoStop::TooMany) => Ok(Answer::Limit {
+            asked: AskWord::Aomoto,
+            kind: LimitKind::Aomoto,
+        }),
+        Err(AomotoStop::Memory) => Err(Stop::Memory),
     }
 }
 

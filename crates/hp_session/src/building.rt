@@ -196,7 +196,7 @@ fn rows_in_field<K: FiniteField>(alloc: Global, rows: &[Row]) -> Result<Vec<Vec<
 }
 
 /// The integers taken into the field.
-fn elements_of<K: FiniteField>(alloc: Global, integers: &[i64]) -> Result<Vec<K>, NoMem>
+pub(crate) fn elements_of<K: FiniteField>(alloc: Global, integers: &[i64]) -> Result<Vec<K>, NoMem>
     ensures { IfOk result (λ elements. elements.items ≡ map (integer K.ring) integers.now) }
 {
     let mut elements = Vec::with_capacity(alloc, integers.len())?;

@@ -3,7 +3,10 @@
 
 mod answering;
 mod building;
+mod derivations;
+mod expressions;
 mod limits;
+mod multiplicities;
 mod names;
 mod prelude;
 mod questions;
@@ -11,7 +14,6 @@ mod session;
 mod stop;
 mod which;
 
-pub use limits::Limits;
 pub use prelude::{Before, Prelude};
 pub use session::{Session, Step};
 pub use which::Which;

@@ -6,38 +6,25 @@ ghost use Rattle.hp_session.specs.Refusals.{bad_limit};
 ghost use Rattle.hp_session.specs.State.{AreLimits};
 ghost use Rattle.hp_session.specs.Steps.{limits_after};
 
+use hp_groebner::{Limits, MOST_DEGREE, MOST_PAIRS};
 use hp_render::Refusal;
 use hp_script::Command;
 
-/// The greatest limits.
-const MOST_PAIRS: u32 = 1_000_000;
-
-const MOST_DEGREE: u32 = 240;
-
-/// How many critical pairs, and which degree, a Gröbner basis may need.
-#[derive(Clone, Copy, Debug, PartialEq, Eq)]
-pub struct Limits {
-    pub pairs: u32,
-    pub degree: u32,
-}
-
-impl Limits {
-    /// Sets the limit that the command names, if it names one. Refused, the limits stay as they were. Takes no memory.
-    pub(crate) fn set(&mut self, command: &Command) -> Result<(), Refusal>
-        requires { AreLimits self.old }
-        ensures accepted { OnOk result (bad_limit command.now ≡ None) }
-        ensures set { OnOk result (self.new ≡ limits_after self.old command.now) }
-        ensures refused { IfErr result (λ r. bad_limit command.now ≡ Some r) }
-        ensures kept { OnErr result (self.new ≡ self.old) }
-        ensures limits { AreLimits self.new }
-    {
-        match command {
-            Command::LimitPairs(n) => self.pairs = limit(*n, MOST_PAIRS)?,
-            Command::LimitDegree(n) => self.degree = limit(*n, MOST_DEGREE)?,
-            _ => {}
-        }
-        Ok(())
+/// Sets the limit that the command names, if it names one. Refused, the limits stay as they were. Takes no memory.
+pub(crate) fn set_limit(limits: &mut Limits, command: &Command) -> Result<(), Refusal>
+    requires { AreLimits limits.old }
+    ensures accepted { OnOk result (bad_limit command.now ≡ None) }
+    ensures set { OnOk result (limits.new ≡ limits_after limits.old command.now) }
+    ensures refused { IfErr result (λ r. bad_limit command.now ≡ Some r) }
+    ensures kept { OnErr result (limits.new ≡ limits.old) }
+    ensures limits { AreLimits limits.new }
+{
+    match command {
+        Command::LimitPairs(n) => limits.pairs = limit(*n, MOST_PAIRS)?,
+        Command::LimitDegree(n) => limits.degree = limit(*n, MOST_DEGREE)?,
+        _ => {}
     }
+    Ok(())
 }
 
 /// The number as a limit, of which this is the greatest.

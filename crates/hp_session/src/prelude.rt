@@ -4,9 +4,10 @@ ghost use Rattle.std.specs.Prelude.{◌≡◌, None, Some};
 ghost use Rattle.hp_session.specs.State.{AreLimits, first_limits};
 ghost use Rattle.hp_session.specs.Steps.{StepsBefore};
 
-use crate::limits::Limits;
+use crate::limits::set_limit;
 use crate::questions::is_built;
 use crate::which::Which;
+use hp_groebner::Limits;
 use hp_render::Refusal;
 use hp_script::Command;
 
@@ -52,7 +53,10 @@ impl Prelude {
                 Some(which) => Before::Chosen(which),
                 None => Before::Refused(Refusal::FieldNotListed(*p)),
             },
-            Command::LimitPairs(_) | Command::LimitDegree(_) => match self.limits.set(command) {
+            Command::LimitPairs(_) | Command::LimitDegree(_) => match set_limit(
+                &mut self.limits,
+                command,
+            ) {
                 Ok(()) => Before::Silent,
                 Err(refusal) => Before::Refused(refusal),
             },

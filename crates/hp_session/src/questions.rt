@@ -20,5 +20,9 @@ pub fn is_built(question: &Question) -> bool
             | Question::Triple(_)
             | Question::Circuits
             | Question::Nbc
+            | Question::Normal(_)
+            | Question::Aomoto(_)
+            | Question::Gb(_)
+            | Question::Der(_)
     )
 }

@@ -11,11 +11,12 @@ ghost use Rattle.hp_session.specs.Stops.{StopsBy, step_of, let_refusal};
 
 use crate::answering::answered;
 use crate::building::arrangement;
-use crate::limits::Limits;
+use crate::limits::set_limit;
 use crate::names::Names;
 use crate::stop::Stop;
 use hp_algebra::FiniteField;
 use hp_arr::Arr;
+use hp_groebner::Limits;
 use hp_render::{Answer, Refusal};
 use hp_script::{Build, Command, Name};
 use std::alloc::Global;
@@ -85,7 +86,10 @@ impl<K: FiniteField> Session<K> {
                 Ok(()) => Step::Silent,
                 Err(stop) => Step::from(stop),
             },
-            Command::LimitPairs(_) | Command::LimitDegree(_) => match self.limits.set(command) {
+            Command::LimitPairs(_) | Command::LimitDegree(_) => match set_limit(
+                &mut self.limits,
+                command,
+            ) {
                 Ok(()) => Step::Silent,
                 Err(refusal) => Step::Refused(refusal),
             },
@@ -111,7 +115,8 @@ impl<K: FiniteField> Session<K> {
 
     /// The limits.
     pub(crate) fn limits(&self) -> Limits
-        ensures { result ≡ self.now.limits }
+        ensures value { result ≡ self.now.limits }
+        ensures lawful { AreLimits self.now.limits }
     {
         self.limits
     }

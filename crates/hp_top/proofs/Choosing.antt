@@ -10,7 +10,7 @@ use Rattle.hp_script.specs.declared.command.Line.{Line}
 use Rattle.hp_session.specs.Refusals.{refusal_before_field}
 use Rattle.hp_session.specs.State.{no_names}
 use Rattle.hp_session.specs.Steps.{IsLimit, limits_after}
-use Rattle.hp_session.specs.declared.limits.Limits.{Limits}
+use Rattle.hp_groebner.specs.declared.limits.Limits.{Limits}
 use Rattle.hp_top.specs.Course.{Course, refused_at, nothing_asked, line_course, course_after, course_behind, course_before, course}
 use Rattle.hp_top.specs.Ends.{EndsBy}
 use Rattle.hp_top.specs.declared.status.Status.{Status}

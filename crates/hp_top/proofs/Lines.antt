@@ -13,7 +13,7 @@ use Rattle.hp_script.specs.declared.command.Line.{Line}
 use Rattle.hp_script.specs.declared.command.Question.{Question}
 use Rattle.hp_session.specs.State.{State, named, no_names}
 use Rattle.hp_session.specs.Steps.{IsSilent}
-use Rattle.hp_session.specs.declared.limits.Limits.{Limits}
+use Rattle.hp_groebner.specs.declared.limits.Limits.{Limits}
 use Rattle.hp_top.specs.Course.{Asked, Course, refused_at, nothing_asked, with_front, asks, line_course, refusal_over, after_over, course_after}
 use Rattle.hp_top.specs.Text.{IsRightFor, text_of, AreAnswers}
 use Rattle.hp_top.specs.Ends.{GavePartOf, GaveFront, EndsBy, WritesText, WritesAnswer, AnswersOver, GoesOn, EndsAt}

@@ -12,7 +12,7 @@ use Rattle.hp_script.specs.declared.command.Question.{Question}
 use Rattle.hp_session.specs.Refusals.{refusal_before_field, refusal}
 use Rattle.hp_session.specs.State.{State, first_limits, no_names, named}
 use Rattle.hp_session.specs.Steps.{limits_after, after}
-use Rattle.hp_session.specs.declared.limits.Limits.{Limits}
+use Rattle.hp_groebner.specs.declared.limits.Limits.{Limits}
 
 -- A question that is asked of an arrangement over the field of p elements, which the script calls by a name, under the limits that then hold.
 pub record Asked : Type 0 where

@@ -10,11 +10,12 @@ ghost use Rattle.hp_top.specs.Ends.{EndsBy, WritesAnswer, GoesOn, EndsAt};
 
 use crate::status::Status;
 use crate::writing::{refuse, write_text};
+use hp_groebner::Limits;
 use hp_io::Sink;
 use hp_modp::{Gf, Modulus, P5, P7, P13, P31, P101, P251, P32003};
 use hp_render::{Answer, render};
 use hp_script::{Command, Line};
-use hp_session::{Limits, Session, Step, Which};
+use hp_session::{Session, Step, Which};
 use std::alloc::Global;
 
 /// Answers the commands over the field that was chosen, from these limits on.
