@@ -1,0 +1,9 @@
+pub mod DrawnEdges
+pub mod SampleAccepted
+pub mod SampleGraphs
+pub mod SampleLines
+pub mod SampleNames
+pub mod SampleParts
+pub mod SampleQuestions
+pub mod SampleReading
+pub mod SampleTokens
