@@ -36,3 +36,20 @@ fn sums_and_boundaries(rt: HostRuntime) -> Result<(), Fail> {
     assert!(rt; x.add(alloc, &x.neg(alloc)?)?.is_zero());
     Ok(())
 }
+
+/// (e_1 e_2 + e_3)(e_1 + e_3) is e_1 e_2 e_3 - e_1 e_3.
+#[test]
+fn products(rt: HostRuntime) -> Result<(), Fail> {
+    let alloc = rt.alloc();
+    let x = element(alloc, K::new(1), K::new(1))?;
+    let first = Ext::<K>::generator(alloc, 1)?;
+    let third = Ext::<K>::generator(alloc, 3)?;
+    let y = first.add(alloc, &third)?;
+    let product = x.mul(alloc, &y)?;
+    assert_eq!(rt; product.len(), 2);
+    assert_eq!(rt; product.coeff(HSet::first(3)).residue(), 1);
+    assert_eq!(rt; product.coeff(HSet::single(1).with(3)).residue(), 30);
+    assert!(rt; y.mul(alloc, &y)?.is_zero());
+    assert!(rt; x.equal(&Ext::one(alloc)?.mul(alloc, &x)?));
+    Ok(())
+}

@@ -1,6 +1,7 @@
 //! Tests of the public calls of the crates, a file a crate: of those that take memory, each once, and of values worked by
-//! hand. What a script reaches is tested by scripts, on the built program. It has no code of its own: the crates below are
-//! proved once, without tests, and what their tests share stands here.
+//! hand. What a script reaches is tested by scripts, on the built program, and polynomials and their vectors have a crate
+//! of tests of their own. It has no code of its own: the crates below are proved once, without tests, and what their
+//! tests share stands here.
 #![tactic(auto)]
 
 #[cfg(test)]
@@ -18,12 +19,8 @@ mod linear;
 #[cfg(test)]
 mod modp;
 #[cfg(test)]
-mod module;
-#[cfg(test)]
-mod mono;
-#[cfg(test)]
 mod orlik_solomon;
 #[cfg(test)]
-mod poly;
+mod sample;
 #[cfg(test)]
 mod samples;

@@ -8,7 +8,7 @@ use hp_algebra::{FiniteField, NoMem};
 use hp_arr::Arr;
 use hp_exterior::Ext;
 use hp_modp::{Gf, P31};
-use hp_os::{is_supported, normal_form};
+use hp_os::{congruent, is_supported, normal_form};
 use hp_sets::HSet;
 use std::alloc::Global;
 use std::test::Fail;
@@ -47,5 +47,20 @@ fn normal_forms(rt: HostRuntime) -> Result<(), Fail> {
     assert_eq!(rt; form.len(), 2);
     assert_eq!(rt; form.coeff(lower).residue(), 30);
     assert_eq!(rt; form.coeff(outer).residue(), 1);
+    Ok(())
+}
+
+/// e_2 e_3 is congruent to e_1 e_3 - e_1 e_2, and not to e_1 e_3 + e_1 e_2.
+#[test]
+fn congruence(rt: HostRuntime) -> Result<(), Fail> {
+    let alloc = rt.alloc();
+    let arr = three_lines(&rt, alloc)?;
+    let outer = HSet::single(1).with(3);
+    let lower = HSet::single(1).with(2);
+    let upper = supported(&arr, element(alloc, &[(1, HSet::single(2).with(3))])?)?;
+    for (sign, answer) in [(30, true), (1, false)] {
+        let other = supported(&arr, element(alloc, &[(1, outer), (sign, lower)])?)?;
+        assert_eq!(rt; congruent(alloc, &arr, &upper, &other)?, answer);
+    }
     Ok(())
 }

@@ -1,8 +1,14 @@
 //! Vectors of polynomials over the residues modulo 31, with answers worked by hand.
 
+ghost use Rattle.std.specs.Prelude.{◌≡◌, ◌≤◌, ℕ, [], ◌∷◌, IfOk, length};
+ghost use Rattle.hp_modp.specs.Residues.{residue_ring};
+ghost use Rattle.hp_mono.specs.Monomials.{max_degree};
+ghost use Rattle.hp_module.specs.FreeModules.{IsGraded};
+ghost use Rattle.hp_module.specs.Vectors.{zero_vector};
+
 use hp_algebra::{FiniteField, List, Module, NoMem, Ring, combine, greatest_weight};
 use hp_modp::{Gf, P31};
-use hp_module::{ElimOrder, Grading, ModVec};
+use hp_module::{ElimOrder, Grading, ModVec, divide};
 use hp_mono::Mono;
 use hp_poly::Poly;
 use std::alloc::Global;
@@ -64,5 +70,53 @@ fn leads_and_degrees(rt: HostRuntime) -> Result<(), Fail> {
         assert!(rt; shifts.as_slice().len() == v.width());
         assert_eq!(rt; v.is_homogeneous(&Grading { shifts }), answer);
     }
+    Ok(())
+}
+
+/// The vector of these two sums, which is not zero and has terms of one low degree.
+fn homogeneous(
+    alloc: Global,
+    first: Terms,
+    second: Terms,
+    order: &ElimOrder,
+    grading: &Grading,
+) -> Result<ModVec<K>, Fail>
+    requires order { order.now.width ≡ 2 }
+    requires shifts { grading.now.shifts ≡ 0 ∷ 0 ∷ [] }
+    ensures width { IfOk result (λ v. length v ≡ 2) }
+    ensures homogeneous { IfOk result (λ v. (d : ℕ) × (d ≤ max_degree) × IsGraded grading.now.shifts d v) }
+    ensures nonzero { IfOk result (λ v. ¬ (v ≡ zero_vector (residue_ring 31) (length v))) }
+{
+    let v = vector(alloc, first, second)?;
+    if v.width() != 2 {
+        return Err("not two entries".into());
+    }
+    let Some(lead) = v.lead(order) else {
+        return Err("zero".into());
+    };
+    if lead.0.mono.degree() > 100 {
+        return Err("a high degree".into());
+    }
+    if !v.is_homogeneous(grading) {
+        return Err("several degrees".into());
+    }
+    Ok(v)
+}
+
+/// (x y, 0) is y (x, y) less (0, y^2), which x e_1 does not divide.
+#[test]
+fn division(rt: HostRuntime) -> Result<(), Fail> {
+    let alloc = rt.alloc();
+    let grading = Grading {
+        shifts: List::of(vec![in alloc; 0, 0]?),
+    };
+    let order = ElimOrder { split: 0, width: 2 };
+    let v = homogeneous(alloc, &[(1, 1, 1)], &[], &order, &grading)?;
+    let by = homogeneous(alloc, &[(1, 1, 0)], &[(1, 0, 1)], &order, &grading)?;
+    let members = vec![in alloc; by]?;
+    let (quotients, rest) = divide(alloc, &v, members.as_slice(), &grading, &order)?;
+    let quotient = quotients.first().ok_or("none")?;
+    assert!(rt; quotient.equal(&poly(alloc, &[(1, 0, 1)])?));
+    assert!(rt; rest.m_equal(&vector(alloc, &[], &[(30, 0, 2)])?));
     Ok(())
 }
