@@ -1,4 +1,5 @@
 mod LaterMembers
 mod NextGenerator
+mod NextNumbered
 mod NextPower
 mod GreatestDegree

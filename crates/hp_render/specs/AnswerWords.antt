@@ -1,5 +1,6 @@
--- The words that an answer begins with, and pieces of text with spaces between them.
-use Rattle.std.specs.Prelude.{ℕ, List, [], ◌∷◌, ◌++◌, flat_map, codes}
+-- The words that an answer begins with, and pieces of text: with spaces between them, by their numbers, and of elements.
+use Rattle.std.specs.Prelude.{ℕ, ◌+◌, List, [], ◌∷◌, ◌++◌, map, flat_map, codes, decimal}
+use Rattle.hp_algebra.specs.Ring.{Numbering}
 use Rattle.hp_render.specs.declared.answer.AskWord.{AskWord}
 use Rattle.hp_render.specs.declared.answer.AskWord.TheVariants as asked
 
@@ -11,6 +12,11 @@ behind_spaces pieces = flat_map (λ piece. 32 ∷ piece) pieces
 abbrev pub spaced : List (List ℕ) → List ℕ
 spaced [] = []
 spaced (piece ∷ pieces) = piece ++ behind_spaces pieces
+
+-- the text of each of the list behind that of those before it, by its number, where the first has the number k
+abbrev pub numbered : {X : Type 0} → (ℕ → X → List ℕ) → ℕ → List X → List ℕ
+numbered f k [] = []
+numbered f k (x ∷ xs) = f k x ++ numbered f (k + 1) xs
 
 -- the word of a question
 abbrev pub word_text : AskWord → List ℕ
@@ -33,3 +39,12 @@ word_text asked.Free = codes "free"
 -- the head of an answer: the word that was asked, the name and a colon
 abbrev pub head : AskWord → List ℕ → List ℕ
 head word name = word_text word ++ codes " " ++ name ++ codes ":"
+
+module _ {K : Type 0} (numbers : Numbering K) where
+  -- a field element is printed as its residue
+  abbrev pub element_text : K → List ℕ
+  element_text c = decimal (numbers.place c)
+
+  -- a line of elements
+  abbrev pub elements_line : List K → List ℕ
+  elements_line cs = spaced (map element_text cs) ++ 10 ∷ []

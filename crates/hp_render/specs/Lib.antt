@@ -1,3 +1,4 @@
 pub mod AnswerWords
+pub mod ResolutionText
 pub mod Text
 pub mod VectorText

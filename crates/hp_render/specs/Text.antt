@@ -4,16 +4,17 @@ use Rattle.std.specs.Fmt.{signed_decimal}
 use Rattle.hp_algebra.specs.Ring.{Numbering}
 use Rattle.hp_sets.specs.Sets.{Set}
 use Rattle.hp_sets.specs.declared.flat.Flat.{Flat}
-pub use Rattle.hp_render.specs.AnswerWords.{behind_spaces, spaced, word_text, head}
+pub use Rattle.hp_render.specs.AnswerWords.{behind_spaces, spaced, word_text, head, element_text, elements_line}
+use Rattle.hp_render.specs.ResolutionText.{resolve_text, free_text, not_free_text}
 use Rattle.hp_render.specs.VectorText.{vectors_text}
 use Rattle.hp_render.specs.declared.answer.Answer.{Answer}
-use Rattle.hp_render.specs.declared.answer.Answer.TheVariants.{Hyperplanes, Point, Rank, Flats, Poincare, Characteristic, Triple, Circuits, Nbc, Normal, Aomoto, Gb, Der, Limit}
+use Rattle.hp_render.specs.declared.answer.Answer.TheVariants.{Hyperplanes, Point, Rank, Flats, Poincare, Characteristic, Triple, Circuits, Nbc, Normal, Aomoto, Gb, Der, Resolve, Free, NotFree, Limit}
 use Rattle.hp_render.specs.declared.answer.LimitKind.{LimitKind}
 use Rattle.hp_render.specs.declared.answer.LimitKind.TheVariants as limit
 use Rattle.hp_render.specs.declared.answer.AskWord.{AskWord}
 use Rattle.hp_render.specs.declared.answer.AskWord.TheVariants as asked
 use Rattle.hp_render.specs.declared.refusal.Refusal.{Refusal}
-use Rattle.hp_render.specs.declared.refusal.Refusal.TheVariants.{Syntax, NoField, FieldTwice, FieldNotListed, UnknownName, NameTaken, Dimension, BadIndex, BadGraph, ZeroForm, Repeated, TooMany, BadList, BadLimit, NotBuilt}
+use Rattle.hp_render.specs.declared.refusal.Refusal.TheVariants.{Syntax, NoField, FieldTwice, FieldNotListed, UnknownName, NameTaken, Dimension, BadIndex, BadGraph, ZeroForm, Repeated, TooMany, BadList, BadLimit}
 
 -- a set: its members between braces
 abbrev pub set_text : Set → List ℕ
@@ -74,26 +75,18 @@ abbrev pub limit_text : List ℕ → AskWord → LimitKind → List ℕ
 limit_text name word kind = head word name ++ codes " limit " ++ limit_word kind ++ 10 ∷ []
 
 module _ {K : Type 0} (numbers : Numbering K) where
-  -- a field element is printed as its residue
-  abbrev pub element_text : K → List ℕ
-  element_text c = decimal (numbers.place c)
-
-  -- a line of elements
-  abbrev pub elements_line : List K → List ℕ
-  elements_line cs = spaced (map element_text cs) ++ 10 ∷ []
-
   -- how many hyperplanes in which dimension, and a line for each form
   abbrev pub hyperplanes_text : List ℕ → ℕ → List (List K) → List ℕ
   hyperplanes_text name dim forms =
-      head asked.Hyperplanes name ++ codes " " ++ decimal (length forms) ++ codes " in " ++ decimal dim ++ 10 ∷ [] ++ flat_map elements_line forms
+      head asked.Hyperplanes name ++ codes " " ++ decimal (length forms) ++ codes " in " ++ decimal dim ++ 10 ∷ [] ++ flat_map (elements_line numbers) forms
 
   -- the coordinates behind the head
   abbrev pub point_text : List ℕ → List K → List ℕ
-  point_text name x = head asked.Point name ++ behind_spaces (map element_text x) ++ 10 ∷ []
+  point_text name x = head asked.Point name ++ behind_spaces (map (element_text numbers) x) ++ 10 ∷ []
 
   -- a term of the exterior algebra: its coefficient, and its generators in rising order
   abbrev pub term_text : Set × K → List ℕ
-  term_text t = element_text t.1 ++ flat_map generator_text t.0
+  term_text t = element_text numbers t.1 ++ flat_map generator_text t.0
 
   -- a term behind another one
   abbrev pub later_term_text : Set × K → List ℕ
@@ -122,6 +115,9 @@ module _ {K : Type 0} (numbers : Numbering K) where
   answer_text name (Aomoto dimensions) = aomoto_text name dimensions
   answer_text name (Gb vs) = vectors_text numbers asked.Gb name vs
   answer_text name (Der vs) = vectors_text numbers asked.Der name vs
+  answer_text name (Resolve maps) = resolve_text numbers name maps
+  answer_text name (Free basis point inverse) = free_text numbers name basis point inverse
+  answer_text name (NotFree generators) = not_free_text name generators
   answer_text name (Limit word kind) = limit_text name word kind
 
 abbrev pub refusal_words : Refusal → List ℕ
@@ -139,7 +135,6 @@ refusal_words (Repeated i j) = codes "repeated " ++ decimal i ++ codes " " ++ de
 refusal_words (TooMany n) = codes "too many " ++ decimal n
 refusal_words BadList = codes "bad list"
 refusal_words BadLimit = codes "bad limit"
-refusal_words NotBuilt = codes "not built"
 
 -- the line of a refusal
 abbrev pub refusal_text : ℕ → Refusal → List ℕ

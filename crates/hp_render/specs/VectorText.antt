@@ -1,13 +1,17 @@
 -- The bytes of polynomials and of vectors of polynomials, each polynomial by its terms from the greatest.
-use Rattle.std.specs.Prelude.{ℕ, zero, suc, ◌+◌, max, List, [], ◌∷◌, ◌++◌, flat_map, length, codes, decimal}
+use Rattle.std.specs.Prelude.{ℕ, zero, suc, max, List, [], ◌∷◌, ◌++◌, flat_map, length, codes, decimal}
 use Rattle.hp_algebra.specs.Ring.{Numbering}
 use Rattle.hp_mono.specs.Monomials.{Monomial, degree}
 use Rattle.hp_render.specs.declared.answer.AskWord.{AskWord}
-use Rattle.hp_render.specs.AnswerWords.{head}
+use Rattle.hp_render.specs.AnswerWords.{head, numbered}
 
 -- the terms of each entry
 abbrev pub Entries : Type 0 → Type 0
 Entries K = List (List (Monomial × K))
+
+-- a row of a matrix with its degree
+abbrev pub Row : Type 0 → Type 0
+Row K = ℕ × Entries K
 
 -- the greatest number that is had by one of the list, and 0 where it is empty
 abbrev pub greatest : {X : Type 0} → (X → ℕ) → List X → ℕ
@@ -26,8 +30,7 @@ power_text i (suc (suc e)) = codes "*x" ++ decimal i ++ codes "^" ++ decimal (su
 
 -- the powers of the variables from x_i on, with these exponents
 abbrev pub powers_text : ℕ → List ℕ → List ℕ
-powers_text i [] = []
-powers_text i (e ∷ es) = power_text i e ++ powers_text (i + 1) es
+powers_text i es = numbered power_text i es
 
 module _ {K : Type 0} (numbers : Numbering K) where
   -- a term: its coefficient as its residue, and its powers
@@ -55,6 +58,10 @@ module _ {K : Type 0} (numbers : Numbering K) where
   -- the line of a vector of that degree
   abbrev pub graded_line : ℕ → Entries K → List ℕ
   graded_line d v = decimal d ++ codes ": (" ++ entries_text v ++ codes ")" ++ 10 ∷ []
+
+  -- the line of a row, its degree before it
+  abbrev pub row_line : Row K → List ℕ
+  row_line r = graded_line r.0 r.1
 
   -- the line of a vector, its own degree before it
   abbrev pub vector_line : Entries K → List ℕ

@@ -71,6 +71,18 @@ pub enum Answer<K> {
     Gb(List<List<List<(Mono, K)>>>),
     /// The same of minimal generators of derivations.
     Der(List<List<List<(Mono, K)>>>),
+    /// The maps of a minimal resolution of derivations: for each its Betti numbers, from degree 0, and its rows with their
+    /// degrees, each entry by its terms.
+    Resolve(List<(List<usize>, List<(u32, List<List<(Mono, K)>>)>)>),
+    /// A homogeneous basis of derivations with the degrees of its members, the least point off the hyperplanes, and by rows
+    /// the inverse of the matrix of the basis's values there.
+    Free {
+        basis: List<(u32, List<List<(Mono, K)>>)>,
+        point: List<K>,
+        inverse: List<List<K>>,
+    },
+    /// There is no such basis: so many minimal generators of derivations.
+    NotFree(usize),
     /// The question that was asked met this limit.
     Limit {
         asked: AskWord,

@@ -1,14 +1,16 @@
 //! The text of an answer.
 
-ghost use Rattle.std.specs.Prelude.{◌≡◌, ◌++◌, flat_map, IfOk, OnOk, OnErr};
-ghost use Rattle.hp_render.specs.Text.{answer_text, elements_line, hyperplanes_text, point_text, rank_text};
+ghost use Rattle.std.specs.Prelude.{◌≡◌, ◌++◌, IfOk, OnOk, OnErr};
+ghost use Rattle.hp_render.specs.Text.{answer_text, hyperplanes_text, point_text, rank_text};
 
 use crate::answer::{Answer, AskWord};
 use crate::exterior_text::{aomoto_text, normal_text};
 use crate::flat_text::flats_text;
+use crate::freeness_text::{free_text, not_free_text};
 use crate::limit_text::limit_text;
-use crate::numbers::{push_behind_spaces, push_spaced};
+use crate::numbers::{push_behind_spaces, push_lines};
 use crate::polynomial_text::{polynomial_text, triple_text};
+use crate::resolution_text::resolve_text;
 use crate::set_text::sets_text;
 use crate::vector_text::vectors_text;
 use hp_algebra::{FiniteField, List, NoMem};
@@ -60,6 +62,19 @@ fn text_of<K: FiniteField>(alloc: Global, answer: &Answer<K>, name: &Name) -> Re
         Answer::Aomoto(dimensions) => aomoto_text(alloc, name, dimensions.as_slice()),
         Answer::Gb(vectors) => vectors_text(alloc, AskWord::Gb, name, vectors.as_slice()),
         Answer::Der(vectors) => vectors_text(alloc, AskWord::Der, name, vectors.as_slice()),
+        Answer::Resolve(maps) => resolve_text(alloc, name, maps.as_slice()),
+        Answer::Free {
+            basis,
+            point,
+            inverse,
+        } => free_text(
+            alloc,
+            name,
+            basis.as_slice(),
+            point.as_slice(),
+            inverse.as_slice(),
+        ),
+        Answer::NotFree(generators) => not_free_text(alloc, name, *generators),
         Answer::Limit { asked, kind } => limit_text(alloc, name, *asked, *kind),
     }
 }
@@ -83,17 +98,6 @@ fn hyperplanes_text<K: FiniteField>(
     text.extend_from_slice(b"\n")?;
     push_lines(forms, &mut text)?;
     Ok(text)
-}
-
-/// Appends a line for each row.
-fn push_lines<K: FiniteField>(rows: &[List<K>], text: &mut Vec<u8>) -> Result<(), NoMem>
-    ensures { OnOk result (text.new.items ≡ text.old.items ++ flat_map (elements_line K.numbers) rows.now) }
-{
-    for row in rows {
-        push_spaced(row.as_slice(), text)?;
-        text.extend_from_slice(b"\n")?;
-    }
-    Ok(())
 }
 
 /// The line of a point.

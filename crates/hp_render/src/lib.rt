@@ -5,11 +5,13 @@ mod answer;
 mod answer_text;
 mod exterior_text;
 mod flat_text;
+mod freeness_text;
 mod limit_text;
 mod numbers;
 mod polynomial_text;
 mod refusal;
 mod refusal_text;
+mod resolution_text;
 mod set_text;
 mod vector_text;
 

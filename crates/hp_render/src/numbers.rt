@@ -1,9 +1,9 @@
 //! Pieces of text that several lines have.
 
-ghost use Rattle.std.specs.Prelude.{◌≡◌, ◌++◌, map, OnOk};
-ghost use Rattle.hp_render.specs.Text.{behind_spaces, spaced, element_text};
+ghost use Rattle.std.specs.Prelude.{◌≡◌, ◌++◌, flat_map, map, OnOk};
+ghost use Rattle.hp_render.specs.AnswerWords.{behind_spaces, element_text, elements_line, spaced};
 
-use hp_algebra::{FiniteField, NoMem};
+use hp_algebra::{FiniteField, List, NoMem};
 use itoa::Buffer;
 
 /// Appends each element as its residue, with a space before each.
@@ -19,7 +19,7 @@ pub fn push_behind_spaces<K: FiniteField>(elements: &[K], text: &mut Vec<u8>) ->
 }
 
 /// Appends each element as its residue, with a space between each two.
-pub fn push_spaced<K: FiniteField>(elements: &[K], text: &mut Vec<u8>) -> Result<(), NoMem>
+fn push_spaced<K: FiniteField>(elements: &[K], text: &mut Vec<u8>) -> Result<(), NoMem>
     ensures { OnOk result (text.new.items ≡ text.old.items ++ spaced (map (element_text K.numbers) elements.now)) }
 {
     match elements {
@@ -30,4 +30,15 @@ pub fn push_spaced<K: FiniteField>(elements: &[K], text: &mut Vec<u8>) -> Result
             push_behind_spaces(rest, text)
         }
     }
+}
+
+/// Appends a line of elements for each row.
+pub fn push_lines<K: FiniteField>(rows: &[List<K>], text: &mut Vec<u8>) -> Result<(), NoMem>
+    ensures { OnOk result (text.new.items ≡ text.old.items ++ flat_map (elements_line K.numbers) rows.now) }
+{
+    for row in rows {
+        push_spaced(row.as_slice(), text)?;
+        text.extend_from_slice(b"\n")?;
+    }
+    Ok(())
 }

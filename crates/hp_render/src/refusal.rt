@@ -33,6 +33,4 @@ pub enum Refusal {
     BadList,
     /// A limit is out of range.
     BadLimit,
-    /// The command is part of the language and can't be answered yet.
-    NotBuilt,
 }

@@ -50,7 +50,6 @@ fn push_words(refusal: &Refusal, text: &mut Vec<u8>) -> Result<(), NoMem>
         Refusal::TooMany(n) => push_numbered(b"too many ", *n, text),
         Refusal::BadList => push_plain(b"bad list", text),
         Refusal::BadLimit => push_plain(b"bad limit", text),
-        Refusal::NotBuilt => push_plain(b"not built", text),
     }
 }
 

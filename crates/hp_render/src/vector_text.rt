@@ -2,7 +2,7 @@
 
 ghost use Rattle.std.specs.Prelude.{◌≡◌, ◌++◌, ◌≤◌, flat_map, IfOk, OnOk};
 ghost use Rattle.hp_mono.specs.Monomials.{degree};
-ghost use Rattle.hp_render.specs.VectorText.{entries_text, entry_text, greatest, later_entry_text, later_product_text, power_text, powers_text, product_text, vector_degree, vector_line, vectors_text};
+ghost use Rattle.hp_render.specs.VectorText.{entries_text, entry_text, graded_line, greatest, later_entry_text, later_product_text, power_text, powers_text, product_text, row_line, vector_degree, vector_line, vectors_text};
 
 use crate::answer::AskWord;
 use crate::limit_text::word_of;
@@ -11,6 +11,9 @@ use hp_mono::{Mono, VARS};
 use hp_script::Name;
 use itoa::Buffer;
 use std::alloc::Global;
+
+/// A row of a matrix of polynomials, each entry by its terms from the greatest, with its degree.
+pub type Row<K> = (u32, List<List<(Mono, K)>>);
 
 /// The lines of vectors behind the word of a question: how many, and a line for each.
 pub fn vectors_text<K: FiniteField>(
@@ -45,12 +48,40 @@ fn push_vectors<K: FiniteField>(
     Ok(())
 }
 
-/// Appends the line of a vector: its degree, and its entries between brackets.
+/// Appends the line of a vector with its own degree.
 fn push_vector<K: FiniteField>(entries: &[List<(Mono, K)>], text: &mut Vec<u8>) -> Result<(), NoMem>
     ensures { OnOk result (text.new.items ≡ text.old.items ++ vector_line K.numbers entries.now) }
 {
+    push_graded(degree_of(entries), entries, text)
+}
+
+/// Appends a line for each row.
+pub fn push_rows<K: FiniteField>(rows: &[Row<K>], text: &mut Vec<u8>) -> Result<(), NoMem>
+    ensures { OnOk result (text.new.items ≡ text.old.items ++ flat_map (row_line K.numbers) rows.now) }
+{
+    for row in rows {
+        push_row(row, text)?;
+    }
+    Ok(())
+}
+
+/// Appends the line of a row, with the degree that it has.
+fn push_row<K: FiniteField>(row: &Row<K>, text: &mut Vec<u8>) -> Result<(), NoMem>
+    ensures { OnOk result (text.new.items ≡ text.old.items ++ row_line K.numbers row.now) }
+{
+    push_graded(row.0, row.1.as_slice(), text)
+}
+
+/// Appends a degree, and entries between brackets.
+fn push_graded<K: FiniteField>(
+    degree: u32,
+    entries: &[List<(Mono, K)>],
+    text: &mut Vec<u8>,
+) -> Result<(), NoMem>
+    ensures { OnOk result (text.new.items ≡ text.old.items ++ graded_line K.numbers degree entries.now) }
+{
     let mut buffer = Buffer::new();
-    text.extend_from_slice(buffer.format(degree_of(entries)).as_bytes())?;
+    text.extend_from_slice(buffer.format(degree).as_bytes())?;
     text.extend_from_slice(b": (")?;
     push_entries(entries, text)?;
     text.extend_from_slice(b")\n")?;

@@ -1,5 +1,5 @@
 use Rattle.std.proofs.Common.{◌≡◌, ◌++◌, map, take}
-use Rattle.hp_render.specs.Text.{behind_spaces, element_text}
+use Rattle.hp_render.specs.AnswerWords.{behind_spaces, element_text}
 use Rattle.hp_render.proofs.numbers.push_behind_spaces.Given as goal
 
 abbrev pub invariant-loop-x : goal.invariant-loop-x
