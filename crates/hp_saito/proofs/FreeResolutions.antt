@@ -12,7 +12,7 @@ use Rattle.hp_complex.specs.Complexes.{map_at}
 use Rattle.hp_linear.specs.Matrices.{Matrix, IsInverse}
 use Rattle.hp_mono.specs.Monomials.{Monomial, degree}
 use Rattle.hp_poly.specs.Polynomials.{Poly}
-use Rattle.hp_module.specs.Vectors.{Vector, GeneratesSet, IsGenerated, IsHomogeneousBasis, IsHomogeneousVector}
+use Rattle.hp_module.specs.Vectors.{Vector, GeneratesSet, IsGenerated}
 use Rattle.hp_module.specs.FreeModules.{IsGraded}
 use Rattle.hp_module.proofs.EntryTerms.{graded_each}
 use Rattle.hp_graded.specs.MinimalGenerators.{IsIrredundant}
@@ -20,8 +20,9 @@ use Rattle.hp_der.specs.DerivationModules.{IsLogarithmic}
 use Rattle.hp_resolution.specs.Resolutions.{Resolution, IsMinimalResolution, row_degrees}
 use Rattle.hp_saito.specs.declared.answer.FreeAnswer.{FreeAnswer}
 use Rattle.hp_saito.specs.declared.answer.FreeAnswer.TheVariants.{Free}
-use Rattle.hp_saito.specs.Freeness.{HaveDegrees, IsCertifiedBasis, IsFreeAnswer, IsFreeArrangement, row_values, values_matrix}
-use Rattle.hp_saito.proofs.FreeBases.{HasGenerators, generators-enough, generators-few, generators-independent, values-inverse}
+use Rattle.hp_saito.specs.Freeness.{AreMinimalGenerators, HaveDegrees, IsCertifiedBasis, IsFreeAnswer, IsFreeArrangement, row_values, values_matrix}
+use Rattle.hp_saito.proofs.FreeBases.{HasGenerators, values-inverse}
+use Rattle.hp_saito.proofs.FreeGenerators.{generators-basis, generators-not_free}
 
 -- A minimal resolution whose first map generates D(A, m), for an arrangement over a field whose elements are numbered.
 pub record Resolves {K : Type 0} (ring : RingOf K) (inverse : K → K) (numbers : Numbering K) (arr : Arrangement K)
@@ -72,12 +73,6 @@ module _ {K : Type 0} {ring : RingOf K} {inverse : K
   graded i l = subst (λ n. IsGraded (replicate n 0) (D i) (slice_index_or rows i [])) columns
       ((is.minimal.frame.resolution.homogeneous 0 some_map).homogeneous i l)
 
-  rises : (i j : ℕ) → i ≤ j → j < length rows → D i ≤ D j
-  rises i j l m =
-      let res = is.minimal.frame.resolution in
-      let many = (res.homogeneous 0 some_map).one_each in
-      is.minimal.in_order 0 [] (omega (arith, res.one_each, some_map)) i j 0 l (omega (arith, many, m))
-
   least : IsIrredundant ring arr.dim rows
   least i l = subst (λ n. ¬ (IsGenerated ring n (remove rows i)
       (slice_index_or rows i []))) columns (is.minimal.minimal.no_redundant_row i l)
@@ -96,25 +91,22 @@ module _ {K : Type 0} {ring : RingOf K} {inverse : K
         (graded_each (replicate arr.dim 0) (D i) v (graded i l) k m));
   }
 
-  -- As many as the dimension are a basis.
-  pub resolution-basis : length (map_at r.maps 0).rows ≡ arr.dim
-      → IsHomogeneousBasis ring arr.dim (IsLogarithmic ring arr mult) (map_at r.maps 0).rows
-  resolution-basis e = record {
-    generates = is.generators.generates;
-    homogeneous = λ i d l.
-        let h = resolution-degrees.homogeneous i l in
-        (D i, subst (IsHomogeneousVector ring (D i)) (get_or_default rows i [] d l) h);
-    independent = generators-independent is.generators e;
-  }
+  -- The rows are minimal generators.
+  pub resolution-generators : AreMinimalGenerators ring arr mult (map_at r.maps 0).rows (row_degrees r 0)
+  resolution-generators =
+      let some : 0 < length r.degrees = omega (arith, is.minimal.frame.resolution.one_each, some_map) in record {
+        generates = is.generators.generates;
+        irredundant = least;
+        have_degrees = resolution-degrees;
+        low = is.minimal.frame.low 0 [] some;
+        in_order = is.minimal.in_order 0 [] some;
+      }
 
-  -- Else the arrangement is not free, and they are more.
+  -- Where they are not as many as the dimension the arrangement is not free, and they are more.
   pub resolution-not_free : length (map_at r.maps 0).rows ≢ arr.dim
       → (¬ (IsFreeArrangement ring arr mult)) × (arr.dim < length (map_at r.maps 0).rows)
-  resolution-not_free n =
-      let enough = generators-enough is.generators in (
-        λ free. (let few = generators-few is.generators D graded rises least free in n (omega (arith, enough, few))),
-        omega (arith, enough, n),
-      )
+  resolution-not_free =
+      generators-not_free is.generators.field is.generators.numbering is.generators.lawful resolution-generators
 
   -- ---- the certificate
 
@@ -137,7 +129,8 @@ module _ {K : Type 0} {ring : RingOf K} {inverse : K
     certified : (n : Matrix K) → IsInverse ring values n
         → IsCertifiedBasis ring numbers arr mult (map_at r.maps 0).rows (row_degrees r 0) x n
     certified n i = record {
-      is_basis = resolution-basis e;
+      is_basis =
+          generators-basis is.generators.field is.generators.numbering is.generators.lawful resolution-generators e;
       have_degrees = resolution-degrees;
       least_point = off;
       certificate = subst (λ m. IsInverse ring m n) same-values i;

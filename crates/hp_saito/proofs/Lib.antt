@@ -2,7 +2,9 @@ pub mod ConstantRelations
 pub mod DefiningMultiples
 pub mod DomainDependence
 pub mod FreeBases
+pub mod FreeGenerators
 pub mod FreeResolutions
+pub mod LogarithmicBases
 pub mod RelationParts
 pub mod RingImages
 pub mod SpannedMultiples

@@ -3,6 +3,8 @@
 
 mod answer;
 mod freeness;
+mod generators;
 
 pub use answer::FreeAnswer;
 pub use freeness::free_answer;
+pub use generators::{free_by_generators, short_resolution};
