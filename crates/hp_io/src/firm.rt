@@ -1,7 +1,7 @@
 //! A source and a sink in memory that tell their bytes and never fail.
-ghost use Rattle.std.specs.Prelude.{◌≡◌, ℕ, ◌<◌, ◌≤◌, List, [], length, None, Some, IfOk, IsOk, IsErr};
+ghost use Rattle.std.specs.Prelude.{◌≡◌, ℕ, ◌<◌, ◌≤◌, min, List, [], length, None, Some, IfOk, IsOk, IsErr, IsErrOf};
 ghost use Rattle.std.proofs.Common.{lit≤};
-ghost use Rattle.hp_io.specs.Bytes.{ReadTakes};
+ghost use Rattle.hp_io.specs.Bytes.{ReadTakes, WriteGives};
 ghost use Rattle.hp_io.specs.Causes.{HasCause};
 
 use super::{Failed, Sink, SinkEnd, Source};
@@ -47,6 +47,8 @@ impl Source for FirmSource {
         ensures bytes { ReadTakes (Some self.old) (Some self.new) result buf.new }
         ensures counted { HasCause 0 0 (IsErr result) }
         ensures always { IsOk result }
+        // It takes as many bytes as it may.
+        ensures all { IfOk result (λ count. count ≡ min (length buf.old) (length self.old)) }
     {
         let left = self.bytes.len() - self.at;
         let count = left.min(buf.len());
@@ -93,7 +95,15 @@ impl Sink for FirmSink {
 
     ghost count_fits = { λ _. lit≤ tt };
 
-    fn write(&mut self, piece: &[u8]) -> Result<usize, SinkEnd> {
+    fn write(&mut self, piece: &[u8]) -> Result<usize, SinkEnd>
+        requires { 0 < length piece.now }
+        ensures bound { IfOk result (λ count. (0 < count) × (count ≤ length piece.now)) }
+        ensures bytes { WriteGives (Some self.old) (Some self.new) result piece.now }
+        ensures counted { HasCause 0 0 (IsErrOf result SinkEnd.Failed) }
+        // It takes all bytes, or memory is out.
+        ensures all { IfOk result (λ count. count ≡ length piece.now) }
+        ensures never_failed { ¬ (IsErrOf result SinkEnd.Failed) }
+    {
         match self.kept.extend_from_slice(piece) {
             Ok(()) => Ok(piece.len()),
             Err(_) => Err(SinkEnd::Memory),
