@@ -1,10 +1,9 @@
 -- The value of an expression over the hyperplanes of an arrangement is an element on their generators.
-use Rattle.std.proofs.Common.{◌≡◌, ℕ, ◌≤◌, Bool, true, false, if◌then◌else◌, List, [], ◌∷◌, map, length, All, pos, ap, arith}
+use Rattle.std.proofs.Common.{ℕ, ◌≤◌, Bool, true, false, if◌then◌else◌, List, [], ◌∷◌, All, pos, arith}
 use Rattle.std.proofs.lemmas.List.Elements.{All-head, All-tail, All-weaker}
-use Rattle.hp_algebra.specs.Ring.{integer}
 use Rattle.hp_arr.proofs.Setting.{Setting, n}
 use Rattle.hp_sets.proofs.SetLaws.{single-set, empty-set}
-use Rattle.hp_exterior.specs.Exterior.{generator, monomial}
+use Rattle.hp_exterior.specs.Exterior.{generator}
 use Rattle.hp_os.proofs.ElementLaws.{element-nothing, element-monomial, element-plus, element-wedge, element-multiple}
 use Rattle.hp_os.proofs.IdealSetting.{Element, laws}
 use Rattle.hp_script.specs.declared.command.Product.{Product}

@@ -1,19 +1,19 @@
 -- The value of an expression by its terms.
-use Rattle.std.proofs.Common.{◌≡◌, ◌⊎◌, ℕ, zero, suc, ◌+◌, ◌-◌, ◌/◌, ◌%◌, ◌≤◌, Bool, true, false, cond, ◌||◌, List, [], ◌∷◌, ◌++◌, map, length, All, ℤ, pos, negsuc, refl, sym, ap, ◌∙◌, arith}
+use Rattle.std.proofs.Common.{◌≡◌, ℕ, zero, suc, ◌+◌, ◌-◌, ◌/◌, ◌%◌, ◌≤◌, Bool, true, false, cond, ◌||◌, List, [], ◌∷◌, ◌++◌, map, length, All, ℤ, pos, negsuc, refl, sym, ap, ◌∙◌, arith}
 use Rattle.std.proofs.lemmas.List.Elements.{All-nil, All-cons, All-head, All-tail}
 use Rattle.hp_algebra.specs.Ring.{RingOf, IsRing, IsCommutative, integer, multiple_of_one}
 use Rattle.hp_algebra.proofs.Rings.{mul_zero}
 use Rattle.hp_lists.specs.Lists.{one_to}
 use Rattle.hp_lists.proofs.Ordered.{rises_of}
 use Rattle.hp_sets.specs.Sets.{Set, IsSetWithin, cmp_listed, contains, meet, union, with_member}
-use Rattle.hp_sets.proofs.SetLaws.{single-set, those-ext, those-set, empty-set}
+use Rattle.hp_sets.proofs.SetLaws.{single-set, those-ext, empty-set}
 use Rattle.hp_sums.specs.FiniteSums.{IsSum, HasValues}
 use Rattle.hp_sums.proofs.SumSetting.{SumSetting}
 use Rattle.hp_sums.proofs.Collected.{collect-IsSum, nothing-IsSum, sum-values}
 use Rattle.hp_sums.proofs.FirstTerms.{no_term}
 use Rattle.hp_sums.proofs.Merges.{collect_both}
 use Rattle.hp_sums.proofs.WeightedSums.{weighted}
-use Rattle.hp_exterior.specs.Exterior.{ext_of, ext_plus, generator, inversions, meets, monomial, sign, wedge, wedge_of_sets}
+use Rattle.hp_exterior.specs.Exterior.{ext_of, ext_plus, generator, inversions, meets, monomial, sign, wedge}
 use Rattle.hp_exterior.specs.ExteriorRing.{monomial-IsExt, of_wedge, sign-value, wedge-IsExt}
 use Rattle.hp_exterior.specs.ExteriorSetting.{ext_setting}
 use Rattle.hp_exterior.specs.SetSums.{inversions-rising, union_nothing}

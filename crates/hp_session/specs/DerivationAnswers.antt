@@ -39,6 +39,8 @@ module _ {K : Type 0} (ring : RingOf K) (arr : Arrangement K) (mult : List ℕ) 
   IsBasisAnswer a = (vs : List (Vector K)) × IsDerivationBasis vs × (a ≡ Gb vs)
 
   -- the minimal generators that the reduced basis has
+  abbrev pub AreKeptGenerators : List (Vector K) → Type 0
+  AreKeptGenerators kept = (vs : List (Vector K)) × IsDerivationBasis vs × IsKept ring arr.dim vs kept
+
   abbrev pub IsGeneratorsAnswer : Answer K → Type 0
-  IsGeneratorsAnswer a =
-      (vs : List (Vector K)) × (kept : List (Vector K)) × IsDerivationBasis vs × IsKept ring arr.dim vs kept × (a ≡ Der kept)
+  IsGeneratorsAnswer a = (kept : List (Vector K)) × AreKeptGenerators kept × (a ≡ Der kept)

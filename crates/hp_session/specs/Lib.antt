@@ -6,6 +6,7 @@ pub mod Multiplicities
 pub mod Questions
 pub mod Refusals
 pub mod Refused
+pub mod ResolutionAnswers
 pub mod State
 pub mod Steps
 pub mod Stops

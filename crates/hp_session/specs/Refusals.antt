@@ -8,18 +8,13 @@ use Rattle.hp_arr.specs.declared.fault.ArrFault.{ArrFault}
 use Rattle.hp_arr.specs.declared.fault.ArrFault.TheVariants as fault
 use Rattle.hp_modp.specs.Primes.{listed_primes}
 use Rattle.hp_render.specs.declared.refusal.Refusal.{Refusal}
-use Rattle.hp_render.specs.declared.refusal.Refusal.TheVariants.{NotBuilt, NoField, FieldTwice, FieldNotListed, NameTaken, ZeroForm, Repeated, TooMany, BadLimit}
+use Rattle.hp_render.specs.declared.refusal.Refusal.TheVariants.{NoField, FieldTwice, FieldNotListed, NameTaken, ZeroForm, Repeated, TooMany, BadLimit}
 use Rattle.hp_script.specs.declared.command.Command.{Command}
 use Rattle.hp_script.specs.declared.command.Command.TheVariants.{Field, Let, LimitPairs, LimitDegree, Ask}
 use Rattle.hp_session.specs.Building.{source_refusal, dimension_refusal, place_refusal, graph_refusal, build_fault}
-use Rattle.hp_session.specs.Questions.{is_built, question_dimension, question_index, question_list}
+use Rattle.hp_session.specs.Questions.{question_dimension, question_index, question_list}
 use Rattle.hp_session.specs.Refused.{where_true, unknown_refusal}
 use Rattle.hp_session.specs.State.{State, is_unknown, named, most_pairs, most_degree}
-
--- `not built`: a question that is part of the language and not answered yet
-abbrev pub not_built : Command → Option Refusal
-not_built (Ask x q) = where_true (not (is_built q)) NotBuilt
-not_built other = None
 
 -- `no field`: a command other than `field` and `limit` before a field is chosen
 abbrev pub no_field : Command → Option Refusal
@@ -93,8 +88,7 @@ module _ {K : Type 0} (ring : RingOf K) (inverse : K → K) (numbers : Numbering
 
   -- The table once a field is chosen: the refusal is the first row that holds.
   abbrev pub refusal : Command → Option Refusal
-  refusal c = first_some (not_built c
-      ∷ field_twice c
+  refusal c = first_some (field_twice c
       ∷ unknown_name state c
       ∷ name_taken state c
       ∷ bad_dimension state c
@@ -107,8 +101,7 @@ module _ {K : Type 0} (ring : RingOf K) (inverse : K → K) (numbers : Numbering
 
 -- The table before a field is chosen.
 abbrev pub refusal_before_field : Command → Option Refusal
-refusal_before_field c = first_some (not_built c
-    ∷ no_field c
+refusal_before_field c = first_some (no_field c
     ∷ field_not_listed c
     ∷ bad_limit c
     ∷ [])

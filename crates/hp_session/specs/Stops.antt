@@ -13,11 +13,10 @@ use Rattle.hp_build.specs.declared.fault.GraphFault.TheVariants as graph
 use Rattle.hp_render.specs.declared.refusal.Refusal.{Refusal}
 use Rattle.hp_render.specs.declared.refusal.Refusal.TheVariants as refusal
 use Rattle.hp_script.specs.declared.command.Build.{Build}
-use Rattle.hp_script.specs.declared.command.Command.TheVariants.{Ask}
 use Rattle.hp_script.specs.declared.command.Question.{Question}
 use Rattle.hp_session.specs.Building.{source_refusal, dimension_refusal, place_refusal, graph_refusal, build_fault}
 use Rattle.hp_session.specs.Questions.{question_dimension, question_index, question_list}
-use Rattle.hp_session.specs.Refusals.{not_built, refusal_of}
+use Rattle.hp_session.specs.Refusals.{refusal_of}
 use Rattle.hp_session.specs.Refused.{where_true, unknown_refusal}
 use Rattle.hp_session.specs.State.{State, is_unknown, named}
 use Rattle.hp_session.specs.declared.session.Step.{Step}
@@ -70,4 +69,4 @@ question_refusal arr q = first_some (question_dimension arr q ∷ question_index
 
 -- the refusal of a question about an arrangement of that name
 abbrev pub ask_refusal : {K : Type 0} → State K → List ℕ → Question → Option Refusal
-ask_refusal state x q = first_some (not_built (Ask x q) ∷ unknown_refusal state x ∷ question_refusal (named state x) q ∷ [])
+ask_refusal state x q = first_some (unknown_refusal state x ∷ question_refusal (named state x) q ∷ [])

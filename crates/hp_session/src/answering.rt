@@ -1,6 +1,6 @@
 //! The answers of questions.
 
-ghost use Rattle.std.specs.Prelude.{◌≡◌, true, None, IfOk, IfErr, OnOk};
+ghost use Rattle.std.specs.Prelude.{◌≡◌, None, IfOk, IfErr, OnOk};
 ghost use Rattle.hp_arr.specs.Flats.{flats, total_rank};
 ghost use Rattle.hp_arr.specs.Moebius.{characteristic, poincare};
 ghost use Rattle.hp_arr.specs.Operations.{deletion, restriction};
@@ -13,7 +13,7 @@ ghost use Rattle.hp_script.specs.declared.command.Question.{Question};
 ghost use Rattle.hp_session.specs.Answers.{unless_many_flats, circuits_or_limit, nbc_or_limit, AreAomotoNumbersOrLimit};
 ghost use Rattle.hp_session.specs.Expressions.{expression_value};
 ghost use Rattle.hp_groebner.specs.LimitRules.{AreLimits};
-ghost use Rattle.hp_session.specs.Questions.{is_built, IsRightAnswer};
+ghost use Rattle.hp_session.specs.Questions.{IsRightAnswer};
 ghost use Rattle.hp_session.specs.Refused.{expression_refusal, weights_refusal};
 ghost use Rattle.hp_session.specs.Steps.{Answers};
 ghost use Rattle.hp_session.specs.Stops.{StopsBy, ask_refusal, question_refusal};
@@ -21,7 +21,7 @@ ghost use Rattle.hp_session.specs.Stops.{StopsBy, ask_refusal, question_refusal}
 use crate::building::{elements_of, index};
 use crate::derivations::{der, gb};
 use crate::expressions::expression;
-use crate::questions::is_built;
+use crate::resolutions::{free, resolve};
 use crate::session::Session;
 use crate::stop::Stop;
 use hp_algebra::{FiniteField, List, NoMem};
@@ -49,9 +49,6 @@ pub fn answered<K: FiniteField>(
     ensures right { IfOk result (Answers K.ring K.inverse K.numbers session.now (Ask name.now question.now)) }
     ensures stop { IfErr result (StopsBy (ask_refusal session.now name.now question.now)) }
 {
-    if !is_built(question) {
-        return Err(Stop::Refused(Refusal::NotBuilt));
-    }
     let arr = session.known(alloc, name)?;
     answer(alloc, session.limits(), arr, question)
 }
@@ -64,7 +61,6 @@ fn answer<K: FiniteField>(
     question: &Question,
 ) -> Result<Answer<K>, Stop>
     requires short { QuestionIsShort question.now }
-    requires built { is_built question.now ≡ true }
     requires limits { AreLimits limits }
     ensures accepted { OnOk result (question_refusal arr.now question.now ≡ None) }
     ensures right { IfOk result (IsRightAnswer K.ring K.inverse K.numbers limits arr.now question.now) }
@@ -84,7 +80,8 @@ fn answer<K: FiniteField>(
         Question::Aomoto(weights) => aomoto(alloc, arr, weights.numbers()),
         Question::Gb(row) => gb(alloc, &limits, arr, row),
         Question::Der(row) => der(alloc, &limits, arr, row),
-        _ => unreachable!(),
+        Question::Resolve(row) => resolve(alloc, &limits, arr, row),
+        Question::Free(row) => free(alloc, &limits, arr, row),
     }
 }
 

@@ -14,6 +14,7 @@ use hp_der::{der_basis, min_gens};
 use hp_groebner::{Limits, Stop as BasisStop};
 use hp_module::ModVec;
 use hp_mono::Mono;
+use hp_poly::Poly;
 use hp_render::{Answer, AskWord, LimitKind};
 use hp_script::Row;
 use std::alloc::Global;
@@ -70,24 +71,27 @@ fn entries_of<K: Field>(
 {
     let mut taken = Vec::with_capacity(alloc, vectors.len())?;
     for vector in vectors {
-        taken.push(entries(alloc, vector)?)?;
+        taken.push(entries(alloc, vector.entries())?)?;
     }
     Ok(List::of(taken))
 }
 
-/// The entries of a vector, each by its terms.
-fn entries<K: Field>(alloc: Global, vector: &ModVec<K>) -> Result<List<List<(Mono, K)>>, NoMem>
-    ensures { IfOk result (λ r. r ≡ vector.now) }
+/// The polynomials of a row, each by its terms.
+pub(crate) fn entries<K: Field>(
+    alloc: Global,
+    row: &[Poly<K>],
+) -> Result<List<List<(Mono, K)>>, NoMem>
+    ensures { IfOk result (λ r. r ≡ row.now) }
 {
-    let mut taken = Vec::with_capacity(alloc, vector.width())?;
-    for entry in vector.entries() {
+    let mut taken = Vec::with_capacity(alloc, row.len())?;
+    for entry in row {
         taken.push(List::of(Vec::from_slice(alloc, entry.terms())?))?;
     }
     Ok(List::of(taken))
 }
 
 /// The answer of the question of that word where its basis met a limit.
-fn stopped<K: FiniteField>(stop: BasisStop, asked: AskWord) -> Result<Answer<K>, NoMem>
+pub(crate) fn stopped<K: FiniteField>(stop: BasisStop, asked: AskWord) -> Result<Answer<K>, NoMem>
     ensures { IfOk result (IsLimitAnswer stop asked) }
 {
     match stop {

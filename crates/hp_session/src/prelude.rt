@@ -5,7 +5,6 @@ ghost use Rattle.hp_session.specs.State.{AreLimits, first_limits};
 ghost use Rattle.hp_session.specs.Steps.{StepsBefore};
 
 use crate::limits::set_limit;
-use crate::questions::is_built;
 use crate::which::Which;
 use hp_groebner::Limits;
 use hp_render::Refusal;
@@ -60,7 +59,6 @@ impl Prelude {
                 Ok(()) => Before::Silent,
                 Err(refusal) => Before::Refused(refusal),
             },
-            Command::Ask(_, question) if !is_built(question) => Before::Refused(Refusal::NotBuilt),
             _ => Before::Refused(Refusal::NoField),
         }
     }

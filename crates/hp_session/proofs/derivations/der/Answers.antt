@@ -14,7 +14,7 @@ returns-in-Ok-clause-right g c =
     let kept = subst (λ w. IsKept ring w c.in-Ok.basis.members c.in_ok-kept-in-Ok.kept.items) c.in-Ok.ensures.width c.in_ok-kept-in-Ok.ensures.kept in
     let a = answer.Der c.in_ok-entries_of-in-Ok.field-0 in
     let P : List ℕ → Type 0 = λ mult. UnlessStopped ring arr mult c.args.limits.now asked.Der (IsGeneratorsAnswer ring arr mult) a in
-    subst P same (inr (inr (c.in-Ok.ensures.no_stop, (c.in-Ok.basis.members, c.in_ok-kept-in-Ok.kept.items, c.in-Ok.ensures.reduced, kept, ap answer.Der (c.in_ok-entries_of-in-Ok.ensures ∙ c.as_slice-in-Ok.ensures.value)))))
+    subst P same (inr (inr (c.in-Ok.ensures.no_stop, (c.in_ok-kept-in-Ok.kept.items, (c.in-Ok.basis.members, c.in-Ok.ensures.reduced, kept), ap answer.Der (c.in_ok-entries_of-in-Ok.ensures ∙ c.as_slice-in-Ok.ensures.value)))))
 
 pub returns-clause-right : goal.returns-clause-right
 returns-clause-right g c =

@@ -1,7 +1,7 @@
-use Rattle.std.proofs.Common.{◌≡◌, cond, sym, ap, ◌∙◌}
+use Rattle.std.proofs.Common.{cond, sym, ap, ◌∙◌}
 use Rattle.hp_exterior.specs.Exterior.{monomial}
 use Rattle.hp_os.specs.OrlikSolomon.{multiple}
-use Rattle.hp_session.specs.Expressions.{number_product, generator_product, product_value}
+use Rattle.hp_session.specs.Expressions.{number_product, generator_product}
 use Rattle.hp_session.proofs.ExpressionValues.{multiple-term}
 use Rattle.hp_session.proofs.expressions.term.Goals as goal
 
