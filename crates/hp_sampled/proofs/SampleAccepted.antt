@@ -11,13 +11,12 @@ use Rattle.hp_arr.proofs.Faultless.{too_many-none}
 use Rattle.hp_build.specs.Families.{graphic, difference}
 use Rattle.hp_build.specs.Graphs.{bad_edge}
 use Rattle.hp_render.specs.declared.refusal.Refusal.{Refusal}
-use Rattle.hp_render.specs.declared.refusal.Refusal.TheVariants.{NotBuilt, NameTaken, Dimension, BadGraph, UnknownName}
+use Rattle.hp_render.specs.declared.refusal.Refusal.TheVariants.{NameTaken, Dimension, BadGraph, UnknownName}
 use Rattle.hp_script.specs.declared.command.Command.{Command}
 use Rattle.hp_script.specs.declared.command.Command.TheVariants.{Field, Let, Ask}
 use Rattle.hp_script.specs.declared.command.Build.TheVariants.{Graphic}
 use Rattle.hp_script.specs.declared.command.Question.TheVariants as question
 use Rattle.hp_session.specs.Building.{is_dimension}
-use Rattle.hp_session.specs.Questions.{is_built}
 use Rattle.hp_session.specs.Refused.{where_true}
 use Rattle.hp_session.specs.Refusals.{refusal, refusal_before_field, refusal_of}
 use Rattle.hp_session.specs.State.{State, is_unknown, no_names}
@@ -32,12 +31,12 @@ use Rattle.hp_sampled.proofs.SampleNames.{names-differ, added-known, added-other
 use Rattle.hp_sampled.proofs.SampleTokens.{IsSmall}
 
 four_none : {X : Type 0} (a b c d : Option X) → a ≡ None → b ≡ None → c ≡ None → d ≡ None
-    → first_some (None ∷ None ∷ None ∷ a ∷ b ∷ None ∷ c ∷ d ∷ None ∷ None ∷ []) ≡ None
+    → first_some (None ∷ None ∷ a ∷ b ∷ None ∷ c ∷ d ∷ None ∷ None ∷ []) ≡ None
 four_none a b c d p q r s =
-    ap (λ x. first_some (None ∷ None ∷ None ∷ x ∷ b ∷ None ∷ c ∷ d ∷ None ∷ None ∷ [])) p
-    ∙ ap (λ x. first_some (None ∷ None ∷ None ∷ None ∷ x ∷ None ∷ c ∷ d ∷ None ∷ None ∷ [])) q
-    ∙ ap (λ x. first_some (None ∷ None ∷ None ∷ None ∷ None ∷ None ∷ x ∷ d ∷ None ∷ None ∷ [])) r
-    ∙ ap (λ x. first_some (None ∷ None ∷ None ∷ None ∷ None ∷ None ∷ None ∷ x ∷ None ∷ None ∷ [])) s
+    ap (λ x. first_some (None ∷ None ∷ x ∷ b ∷ None ∷ c ∷ d ∷ None ∷ None ∷ [])) p
+    ∙ ap (λ x. first_some (None ∷ None ∷ None ∷ x ∷ None ∷ c ∷ d ∷ None ∷ None ∷ [])) q
+    ∙ ap (λ x. first_some (None ∷ None ∷ None ∷ None ∷ None ∷ x ∷ d ∷ None ∷ None ∷ [])) r
+    ∙ ap (λ x. first_some (None ∷ None ∷ None ∷ None ∷ None ∷ None ∷ x ∷ None ∷ None ∷ [])) s
 
 -- the rows of the table for a question on a graph, from `unknown name` on
 abbrev rows : ℕ → Bool → List (Option Refusal)
@@ -45,13 +44,6 @@ rows i b = where_true b (UnknownName (graph_name i)) ∷ None ∷ None ∷ None 
 
 plain : (i : ℕ) (b : Bool) → b ≡ false → first_some (rows i b) ≡ None
 plain i b e = ap (λ x. first_some (rows i x)) e
-
-free : (i : ℕ) (a b : Bool) → a ≡ true → b ≡ false → first_some (where_true (not a) NotBuilt ∷ None ∷ rows i b) ≡ None
-free i a b e f = ap (λ x. first_some (where_true (not x) NotBuilt ∷ None ∷ rows i b)) e ∙ plain i b f
-
--- The question `free` is answered.
-abbrev pub IsFreeBuilt : Type 0
-IsFreeBuilt = is_built (question.Free None) ≡ true
 
 module _ {K : Type 0} (ring : RingOf K) (inverse : K → K) (numbers : Numbering K) (many : 28 < numbers.order) where
   -- a graph's `let` is accepted where its name is unknown
@@ -76,49 +68,48 @@ module _ {K : Type 0} (ring : RingOf K) (inverse : K → K) (numbers : Numbering
       by_test true = refl
       by_test false = refl
 
-  module _ (free_built : IsFreeBuilt) where
-    -- the questions on a graph are accepted where its name is known, and leave the state
-    asked-accepted : (state : State K) (i : ℕ) (rest : List Command) → is_unknown state (graph_name i) ≡ false
-        → AreAccepted ring inverse numbers state rest
-        → AreAccepted ring inverse numbers state (map (Ask (graph_name i)) (asked i) ++ rest)
-    asked-accepted state i rest known later = by_test (nat_le i 20)
-      where
-        by_test : (b : Bool) → AreAccepted ring inverse numbers state
-            (map (Ask (graph_name i)) (cond b (question.Poincare ∷ question.Nbc ∷ question.Free None ∷ [])
-            (question.Flats ∷ question.Poincare ∷ question.Nbc ∷ [])) ++ rest)
-        by_test true = (plain i _ known, (plain i _ known, (free i _ _ free_built known, later)))
-        by_test false = (plain i _ known, (plain i _ known, (plain i _ known, later)))
+  -- the questions on a graph are accepted where its name is known, and leave the state
+  asked-accepted : (state : State K) (i : ℕ) (rest : List Command) → is_unknown state (graph_name i) ≡ false
+      → AreAccepted ring inverse numbers state rest
+      → AreAccepted ring inverse numbers state (map (Ask (graph_name i)) (asked i) ++ rest)
+  asked-accepted state i rest known later = by_test (nat_le i 20)
+    where
+      by_test : (b : Bool) → AreAccepted ring inverse numbers state
+          (map (Ask (graph_name i)) (cond b (question.Poincare ∷ question.Nbc ∷ question.Free None ∷ [])
+          (question.Flats ∷ question.Poincare ∷ question.Nbc ∷ [])) ++ rest)
+      by_test true = (plain i _ known, (plain i _ known, (plain i _ known, later)))
+      by_test false = (plain i _ known, (plain i _ known, (plain i _ known, later)))
 
-    -- no graph from that number on is named
-    abbrev pub AreUnknown : ℕ → State K → Type 0
-    AreUnknown i state = (j : ℕ) → IsSmall j → i ≤ j → is_unknown state (graph_name j) ≡ true
+  -- no graph from that number on is named
+  abbrev pub AreUnknown : ℕ → State K → Type 0
+  AreUnknown i state = (j : ℕ) → IsSmall j → i ≤ j → is_unknown state (graph_name j) ≡ true
 
-    graphs-accepted : (n i s : ℕ) (state : State K) → 1 ≤ i → i + n ≤ 31 → AreUnknown i state
-        → AreAccepted ring inverse numbers state (graph_commands (range_with_len i n) s)
-    graphs-accepted zero i s state low high fresh = tt
-    graphs-accepted (suc n) i s state low high fresh =
-        let here : IsSmall i = (low, omega (arith, high)) in
-        let arr = graphic ring (vertices i) (edges i s) in
-        let next = after ring inverse numbers state (Let (graph_name i) (Graphic (vertices i) (edges i s))) in
-        let later : AreUnknown (i + 1) next =
-        λ j small above. added-other state.names (graph_name i) (graph_name j) arr
-        (names-differ i j here small (omega (arith, above))) (fresh j small (omega (arith, above))) in (
-          let-accepted state i s (fresh i here (itself i)),
-          asked-accepted next i (graph_commands (range_with_len (i + 1) n)
-              (state_after (length (vertex_pairs (vertices i))) s)) (added-known state.names (graph_name i) arr)
-              (graphs-accepted n (i + 1) (state_after (length (vertex_pairs (vertices i))) s) next (omega arith)
-              (omega (arith, high)) later),
-        )
-      where
-        itself : (m : ℕ) → m ≤ m
-        itself m = omega arith
+  graphs-accepted : (n i s : ℕ) (state : State K) → 1 ≤ i → i + n ≤ 31 → AreUnknown i state
+      → AreAccepted ring inverse numbers state (graph_commands (range_with_len i n) s)
+  graphs-accepted zero i s state low high fresh = tt
+  graphs-accepted (suc n) i s state low high fresh =
+      let here : IsSmall i = (low, omega (arith, high)) in
+      let arr = graphic ring (vertices i) (edges i s) in
+      let next = after ring inverse numbers state (Let (graph_name i) (Graphic (vertices i) (edges i s))) in
+      let later : AreUnknown (i + 1) next =
+      λ j small above. added-other state.names (graph_name i) (graph_name j) arr
+      (names-differ i j here small (omega (arith, above))) (fresh j small (omega (arith, above))) in (
+        let-accepted state i s (fresh i here (itself i)),
+        asked-accepted next i (graph_commands (range_with_len (i + 1) n)
+            (state_after (length (vertex_pairs (vertices i))) s)) (added-known state.names (graph_name i) arr)
+            (graphs-accepted n (i + 1) (state_after (length (vertex_pairs (vertices i))) s) next (omega arith)
+            (omega (arith, high)) later),
+      )
+    where
+      itself : (m : ℕ) → m ≤ m
+      itself m = omega arith
 
 -- Behind `field 32003` all commands of the sample are accepted.
-pub sample-accepted : IsFreeBuilt → (limits : Limits) (k : ℕ)
+pub sample-accepted : (limits : Limits) (k : ℕ)
     → AreAccepted (residue_ring 32003) (inverse_mod 32003) (residue_numbers 32003) (no_names limits)
     (graph_commands (one_to 30) k)
-sample-accepted free_built limits k =
-    graphs-accepted (residue_ring 32003) (inverse_mod 32003) (residue_numbers 32003) (omega arith) free_built 30 1 k
+sample-accepted limits k =
+    graphs-accepted (residue_ring 32003) (inverse_mod 32003) (residue_numbers 32003) (omega arith) 30 1 k
     (no_names limits) (omega arith) (omega arith)
     (λ j small above. refl)
 

@@ -1,5 +1,5 @@
 -- What a run gives to the sink, as the text of a course or a part of it.
-use Rattle.std.proofs.Common.{◌≡◌, ℕ, ◌+◌, Bool, nat_lt, List, [], ◌∷◌, ◌++◌, take, drop, length, Option, None, refl, sym, ap, subst, ◌∙◌, append_assoc, length-append, arith}
+use Rattle.std.proofs.Common.{◌≡◌, ℕ, ◌+◌, Bool, nat_lt, List, [], ◌∷◌, ◌++◌, take, drop, length, Option, None, Err, refl, sym, ap, subst, ◌∙◌, append_assoc, length-append, arith}
 use Rattle.std.specs.Bool.{if◌then◌else◌}
 use Rattle.std.proofs.lemmas.List.{append-nil, take-append-drop}
 use Rattle.std.proofs.Math.Seq.{take-append-add}
@@ -10,29 +10,40 @@ use Rattle.hp_render.specs.Text.{refusal_text}
 use Rattle.hp_render.specs.declared.answer.Answer.{Answer}
 use Rattle.hp_render.specs.declared.refusal.Refusal.{Refusal}
 use Rattle.hp_top.specs.Course.{Asked, Course, refused_at, nothing_asked, with_front}
-use Rattle.hp_top.specs.Text.{refused_line, IsRightFor, text_of, AreAnswers, IsTextOf, IsPartOf, IsPrefix, first_questions}
-use Rattle.hp_top.specs.Ends.{GaveText, GavePartOf, GaveFront, EndsBy}
+use Rattle.hp_top.specs.Text.{refused_line, IsRightFor, text_of, AreRight, texts_of, AreAnswers, IsTextOf, IsPartOf, IsPrefix, first_questions}
+use Rattle.hp_top.specs.Ends.{GaveText, GavePartOf, GaveFront, EndsBy, WritesText}
 use Rattle.hp_top.specs.declared.status.Status.{Status}
 use Rattle.hp_top.specs.declared.status.Status.TheVariants.{Done, ScriptRefused, ReadFault, WriteFault, TooLong, WordsRefused, OutOfMemory}
 
 -- the line of a refusal is the text of a course that is refused at once, and its front a part of it
 pub refused_text : (n : ℕ) (r : Refusal) → IsTextOf (refused_at n r) (refusal_text n r)
-refused_text n r = ([], refl, refl)
+refused_text n r = ([], ([], tt, refl), refl)
 
 pub refused_part : (n : ℕ) (r : Refusal) (bytes : List ℕ) → IsPrefix bytes (refusal_text n r)
     → IsPartOf (refused_at n r) bytes
-refused_part n r bytes front = (0, refusal_text n r, ([], refl, refl), front)
+refused_part n r bytes front = (0, refusal_text n r, ([], ([], tt, refl), refl), front)
+
+-- the writing of the line of a refusal that was cut off
+pub refused_cut : (n : ℕ) (r : Refusal) (s : Status) (before now : Option (List ℕ))
+    → WritesText (refusal_text n r) (Err s) before now → EndsBy s (refused_at n r) before now
+refused_cut n r WriteFault before now front = (front.0, refused_part n r front.0 front.1, front.2)
+refused_cut n r OutOfMemory before now front = (front.0, refused_part n r front.0 front.1, front.2)
+refused_cut n r Done before now none = absurd none
+refused_cut n r ScriptRefused before now none = absurd none
+refused_cut n r ReadFault before now none = absurd none
+refused_cut n r TooLong before now none = absurd none
+refused_cut n r WordsRefused before now none = absurd none
 
 pub nothing_text : IsTextOf nothing_asked []
-nothing_text = ([], refl, refl)
+nothing_text = ([], ([], tt, refl), refl)
 
 -- nothing is a part of every course
 pub nothing_part : (c : Course) → IsPartOf c []
-nothing_part c = (0, refused_line (first_questions 0 c).refused, ([], refl, refl), (refused_line (first_questions 0 c).refused, refl))
+nothing_part c = (0, refused_line (first_questions 0 c).refused, ([], ([], tt, refl), refl), (refused_line (first_questions 0 c).refused, refl))
 
 -- the answer to one question
 pub one_answer : (q : Asked) (a : Answer ℕ) → IsRightFor q a → AreAnswers (q ∷ []) (text_of q a)
-one_answer q a right = (a, [], right, refl, sym (append-nil (text_of q a)))
+one_answer q a right = (a ∷ [], (right, tt), sym (append-nil (text_of q a)))
 
 -- the front of the text of its one question is a part of the course
 pub question_part : (q : Asked) (a : Answer ℕ) (c : Course) (bytes : List ℕ) → IsRightFor q a
@@ -43,11 +54,30 @@ question_part q a c bytes right front =
     (1, text ++ line, (text, one_answer q a right, refl), (front.0 ++ line, ap (λ s. s ++ line) front.1 ∙ append_assoc bytes front.0 line))
 
 -- the answers to the one list of questions, and then those to the other
+pub right-append : (qs rs : List Asked) (given more : List (Answer ℕ)) → AreRight qs given → AreRight rs more
+    → AreRight (qs ++ rs) (given ++ more)
+right-append [] rs [] more p r = r
+right-append [] rs (a ∷ given) more p r = absurd p
+right-append (q ∷ qs) rs [] more p r = absurd p
+right-append (q ∷ qs) rs (a ∷ given) more p r = (p.0, right-append qs rs given more p.1 r)
+
+-- and their texts
+pub texts-append : (qs rs : List Asked) (given more : List (Answer ℕ)) → AreRight qs given
+    → texts_of (qs ++ rs) (given ++ more) ≡ texts_of qs given ++ texts_of rs more
+texts-append [] rs [] more p = refl
+texts-append [] rs (a ∷ given) more p = absurd p
+texts-append (q ∷ qs) rs [] more p = absurd p
+texts-append (q ∷ qs) rs (a ∷ given) more p =
+    ap (λ s. text_of q a ++ s) (texts-append qs rs given more p.1)
+    ∙ sym (append_assoc (text_of q a) (texts_of qs given) (texts_of rs more))
+
 pub answers-append : (qs rs : List Asked) (xs ys : List ℕ) → AreAnswers qs xs → AreAnswers rs ys
     → AreAnswers (qs ++ rs) (xs ++ ys)
-answers-append [] rs xs ys none more = subst (λ s. AreAnswers rs (s ++ ys)) (sym none) more
-answers-append (q ∷ qs) rs xs ys is more =
-    (is.0, is.1 ++ ys, is.2, answers-append qs rs is.1 ys is.3 more, ap (λ s. s ++ ys) is.4 ∙ append_assoc (text_of q is.0) is.1 ys)
+answers-append qs rs xs ys is more = (
+  is.0 ++ more.0,
+  right-append qs rs is.0 more.0 is.1 more.1,
+  ap (λ s. s ++ ys) is.2 ∙ ap (λ s. texts_of qs is.0 ++ s) more.2 ∙ sym (texts-append qs rs is.0 more.0 is.1),
+)
 
 module _ (qs : List Asked) (texts : List ℕ) (answers : AreAnswers qs texts) where
   -- the text of a course behind these answers

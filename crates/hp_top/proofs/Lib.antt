@@ -3,3 +3,7 @@ pub mod Courses
 pub mod Lines
 pub mod OneCourse
 pub mod RightCall
+pub mod RightSample
+pub mod SampleCourse
+pub mod SampleWords
+pub mod Tallying

@@ -23,7 +23,7 @@ use Rattle.hp_top.proofs.Courses.{nothing_text, nothing_part, one_answer, questi
 
 module _ (p : ℕ) where
   -- a command that is no question asks nothing
-  asks-silent : (state : State ℕ) (c : Command) → IsSilent c → asks p state c ≡ []
+  pub asks-silent : (state : State ℕ) (c : Command) → IsSilent c → asks p state c ≡ []
   asks-silent state (Field n) silent = refl
   asks-silent state (Let y b) silent = refl
   asks-silent state (LimitPairs n) silent = refl
@@ -77,6 +77,20 @@ module _ (p : ℕ) where
       → WritesText (text_of (asked it) a) result before now
   writes_text state c a it result before now writes = subst (λ d. WritesAnswer p d a result before now) it.command writes
 
+  -- the course from line i on is that of the line and those behind it
+  pub line_ahead : (whole : Course) (questions : List Asked) (lines : List Line) (i : ℕ) (state : State ℕ) (line : Line)
+      → i < length lines → line ≡ get_or lines i line → whole ≡ with_front questions (course_after p state (drop i lines))
+      → whole ≡ with_front questions (course_after p state (line ∷ drop (i + 1) lines))
+  line_ahead whole questions lines i state line within read ahead =
+      ahead ∙ ap (λ ls. with_front questions (course_after p state ls)) (drop_more lines i line within ∙ ap (λ l. l ∷ drop (i + 1) lines) (sym read))
+
+  -- and behind the last line there is nothing
+  pub nothing_ahead : (whole : Course) (questions : List Asked) (lines : List Line) (i : ℕ) (state : State ℕ)
+      → length lines ≤ i → whole ≡ with_front questions (course_after p state (drop i lines))
+      → whole ≡ with_front questions nothing_asked
+  nothing_ahead whole questions lines i state past ahead =
+      ahead ∙ ap (λ ls. with_front questions (course_after p state ls)) (drop_of_length-le lines past)
+
   -- how far the run of a course has come: it gave right answers to some questions, and the course goes on from a state at line i
   pub record Going (whole : Course) (lines : List Line) (i : ℕ) (state : State ℕ) (before now : Option (List ℕ)) : Type 0 where
     pub questions : List Asked
@@ -99,17 +113,15 @@ module _ (p : ℕ) where
     -- behind the last line all is answered
     pub ends_done : length lines ≤ i → EndsBy Done whole before middle
     ends_done past =
-        let none : drop i lines ≡ [] = drop_of_length-le lines past in
-        ends_ahead nothing_asked Done middle (going.ahead ∙ ap (λ ls. with_front going.questions (course_after p state ls)) none) (refl, ([], nothing_text, gave_none middle))
+        ends_ahead nothing_asked Done middle (nothing_ahead whole going.questions lines i state past going.ahead) (refl, ([], nothing_text, gave_none middle))
 
     module _ (line : Line) (within : i < length lines) (read : line ≡ get_or lines i line) where
       -- the lines behind it
       abbrev rest : List Line
       rest = drop (i + 1) lines
 
-      -- the course from line i on is that of the line and those behind it
       front_line : whole ≡ with_front going.questions (course_after p state (line ∷ rest))
-      front_line = going.ahead ∙ ap (λ ls. with_front going.questions (course_after p state ls)) (drop_more lines i line within ∙ ap (λ l. l ∷ rest) (sym read))
+      front_line = line_ahead whole going.questions lines i state line within read going.ahead
 
       module _ (a : Answer ℕ) (accepted : refusal_over p state line.command ≡ None) (it : Asks state line.command a) where
         more : whole ≡ with_front going.questions (with_front (asked it ∷ []) (course_after p state rest))
@@ -173,4 +185,4 @@ module _ (p : ℕ) where
   -- before the first line nothing is answered
   pub going_first : (limits : Limits) (lines : List Line) (now : Option (List ℕ))
       → Going (course_after p (no_names limits) lines) lines 0 (no_names limits) now now
-  going_first limits lines now = record { questions = []; texts = []; answers = refl; given = gave_none now; ahead = refl }
+  going_first limits lines now = record { questions = []; texts = []; answers = ([], tt, refl); given = gave_none now; ahead = refl }

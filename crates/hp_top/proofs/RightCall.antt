@@ -9,7 +9,8 @@ use Rattle.hp_script.specs.Script.{most_bytes}
 use Rattle.hp_top.specs.Course.{Course, HasCourse, IsShort, IsAccepted, IsRefused}
 use Rattle.hp_top.specs.Text.{IsRunText, IsPartText, IsPartOf}
 use Rattle.hp_top.specs.Ends.{EndsBy, EndsScript}
-use Rattle.hp_top.specs.Run.{Call, NoFaults, Wrote, Reads, RefusesWords, WritesByStatus, CountsFaults, IsRightCall}
+use Rattle.hp_top.specs.Run.{Call, AreKnownWords, NoFaults, Wrote, Reads, RefusesWords, WritesByStatus, RunsSample, CountsFaults, IsRightCall}
+use Rattle.hp_top.specs.Summary.{IsSampleWords}
 use Rattle.hp_top.specs.declared.status.Status.{Status}
 use Rattle.hp_top.specs.declared.status.Status.TheVariants.{Done, ScriptRefused, ReadFault, WriteFault, TooLong, WordsRefused, OutOfMemory}
 use Rattle.hp_top.proofs.OneCourse.{not_both}
@@ -19,7 +20,7 @@ pub record Core (call : Call) : Type 0 where
   pub words : RefusesWords call
   pub written : WritesByStatus call
   pub read_fault : call.status ≡ ReadFault → (call.words ≡ []) × Rose call.read_faults_before call.read_faults_after
-  pub write_fault : call.status ≡ WriteFault → (call.words ≡ []) × Rose call.write_faults_before call.write_faults_after
+  pub write_fault : call.status ≡ WriteFault → AreKnownWords call.words × Rose call.write_faults_before call.write_faults_after
   pub too_long : (script : List ℕ) → Reads call script → call.status ≡ TooLong
       → (taken : List ℕ) × (left : List ℕ) × (script ≡ taken ++ left) × (call.left_after ≡ Some left)
       × (most_bytes < length taken)
@@ -27,6 +28,7 @@ pub record Core (call : Call) : Type 0 where
       → most_bytes < length taken → call.status ≡ TooLong
   pub longer : (script : List ℕ) → Reads call script → most_bytes < length script
       → ¬ (Rose call.read_faults_before call.read_faults_after) → (call.status ≡ TooLong) ⊎ (call.status ≡ OutOfMemory)
+  pub sample : (k : ℕ) → IsSampleWords call.words k → RunsSample call k
   pub counts : CountsFaults call
 
 module _ (call : Call) (core : Core call) where
@@ -38,7 +40,7 @@ module _ (call : Call) (core : Core call) where
   sorts script reads none short OutOfMemory e = inr (inr e)
   sorts script reads none short ReadFault e = absurd (none.0 (core.read_fault e).1)
   sorts script reads none short WriteFault e = absurd (none.1 (core.write_fault e).1)
-  sorts script reads none short WordsRefused e = absurd (core.words.exactly.0 e reads.0)
+  sorts script reads none short WordsRefused e = absurd (core.words.exactly.0 e (inl reads.0))
   sorts script reads none short TooLong e =
       let over = core.too_long script reads e in
       let lengths = ap length over.2 in
@@ -82,17 +84,25 @@ module _ (call : Call) (core : Core call) where
       accepted = accepted_ends;
       refused = refused_ends;
     };
+    sample = core.sample;
     counts = core.counts;
   }
 
 -- bytes that were given to a sink which tells what was written
-wrote : (P : List ℕ → Type 0) (before now : Option (List ℕ)) (bytes : List ℕ) → P bytes → Gave before now bytes
+pub wrote : (P : List ℕ → Type 0) (before now : Option (List ℕ)) (bytes : List ℕ) → P bytes → Gave before now bytes
     → (old : List ℕ) → before ≡ Some old → (x : List ℕ) × P x × (now ≡ Some (old ++ x))
 wrote P before now bytes p gave old e = (bytes, p, gave_told old now bytes (subst (λ o. Gave o now bytes) e gave))
 
 wrote_nothing : (P : List ℕ → Type 0) (before now : Option (List ℕ)) → P [] → now ≡ before → (old : List ℕ)
     → before ≡ Some old → (x : List ℕ) × P x × (now ≡ Some (old ++ x))
 wrote_nothing P before now p same old e = ([], p, same ∙ e ∙ ap Some (sym (append-nil old)))
+
+-- there are no words, so they ask for no sample
+pub no_sample : (words : List (List ℕ)) → words ≡ [] → (k : ℕ) → IsSampleWords words k → ⊥
+no_sample words none k is = differ (length words) (ap length none) (ap length is.0)
+  where
+    differ : (n : ℕ) → n ≡ 0 → n ≡ 2 → ⊥
+    differ n e f = omega (arith, e, f)
 
 -- a script was read to its end, and it ran
 module _ (words : List (List ℕ)) (left_before left_after : Option (List ℕ)) (read_before read_after : ℕ) (written_before written_after : Option (List ℕ)) (write_before write_after : ℕ) (status : Status)
@@ -178,7 +188,7 @@ module _ (words : List (List ℕ)) (left_before left_after : Option (List ℕ)) 
   pub ran_right : IsRightCall call
   ran_right = right_call call (record {
     words = record {
-      exactly = (λ is. absurd (no_such WordsRefused is (λ c never. never) (λ clash. cc)), λ some. absurd (some no_words));
+      exactly = (λ is. absurd (no_such WordsRefused is (λ c never. never) (λ clash. cc)), λ unknown. absurd (unknown (inl no_words)));
       nothing = λ is. absurd (no_such WordsRefused is (λ c never. never) (λ clash. cc));
     };
     written = record {
@@ -189,9 +199,10 @@ module _ (words : List (List ℕ)) (left_before left_after : Option (List ℕ)) 
       refused = λ s r is. refused s r.1 is;
     };
     read_fault = λ is. absurd (no_such ReadFault is (λ c never. never) (λ clash. cc));
-    write_fault = λ is. (no_words, counted.cause is);
+    write_fault = λ is. (inl no_words, counted.cause is);
     too_long = λ s r is. absurd (no_such TooLong is (λ c never. never) (λ clash. cc));
     taken_too_much = λ taken left r e more. absurd (over_end taken left r.1 more);
     longer = λ s r more none. absurd (too_long s r.1 more);
+    sample = λ k is. absurd (no_sample words no_words k is);
     counts = record { read_faults = reads.never_falls; write_faults = counted.never_falls; read_fits = reads.fits; write_fits = counted.fits };
   })

@@ -80,6 +80,10 @@ HasCourse script c =
     ((line : ℕ) × (column : ℕ) × HasSyntaxFault script line column × (c ≡ refused_at line (Syntax column)))
     ⊎ ((cs : List Line) × HasCommands script cs × (c ≡ course cs))
 
+-- a script without a line outside the grammar
+abbrev pub IsWithinGrammar : List ℕ → Type 0
+IsWithinGrammar script = (cs : List Line) × HasCommands script cs
+
 -- a script that is read whole
 abbrev pub IsShort : List ℕ → Type 0
 IsShort script = length script ≤ most_bytes

@@ -11,6 +11,7 @@ use Rattle.hp_top.specs.Course.{Course, HasCourse, refused_at, refusal_over, aft
 use Rattle.hp_session.specs.State.{State}
 use Rattle.hp_session.specs.Steps.{IsSilent, Answers}
 use Rattle.hp_script.specs.declared.command.Line.{Line}
+use Rattle.hp_top.specs.Summary.{IsSummary}
 use Rattle.hp_top.specs.Text.{IsTextOf, IsPartOf, IsPrefix}
 use Rattle.hp_render.specs.declared.refusal.Refusal.{Refusal}
 use Rattle.hp_top.specs.declared.status.Status.{Status}
@@ -46,6 +47,16 @@ WritesText text (Ok done) before now = Gave before now text
 WritesText text (Err WriteFault) before now = GaveFront text before now
 WritesText text (Err OutOfMemory) before now = GaveFront text before now
 WritesText text (Err other) before now = ⊥
+
+-- A run of a sample ends: its summary was written, or the front of it, or memory was out before that was known.
+abbrev pub EndsSample : ℕ → Status → Option (List ℕ) → Option (List ℕ) → Type 0
+EndsSample k Done before now = (text : List ℕ) × IsSummary k text × Gave before now text
+EndsSample k WriteFault before now = (text : List ℕ) × IsSummary k text × GaveFront text before now
+EndsSample k OutOfMemory before now = Gave before now [] ⊎ ((text : List ℕ) × IsSummary k text × GaveFront text before now)
+EndsSample k ScriptRefused before now = ⊥
+EndsSample k ReadFault before now = ⊥
+EndsSample k TooLong before now = ⊥
+EndsSample k WordsRefused before now = ⊥
 
 module _ (p : ℕ) where
   -- the same of the text of an answer to a question, over the residues modulo p

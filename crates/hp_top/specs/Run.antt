@@ -3,9 +3,14 @@ use Rattle.std.specs.Prelude.{◌≡◌, ◌≢◌, ◌⊎◌, ◌↔◌, ℕ, �
 use Rattle.hp_io.specs.Causes.{Rose}
 use Rattle.hp_script.specs.Script.{most_bytes}
 use Rattle.hp_top.specs.Course.{IsShort, IsAccepted, IsRefused}
-use Rattle.hp_top.specs.Text.{IsRunText, IsPartText}
+use Rattle.hp_top.specs.Summary.{IsSampleWords, IsSummary}
+use Rattle.hp_top.specs.Text.{IsRunText, IsPartText, IsPrefix}
 use Rattle.hp_top.specs.declared.status.Status.{Status}
 use Rattle.hp_top.specs.declared.status.Status.TheVariants.{Done, ScriptRefused, ReadFault, WriteFault, TooLong, WordsRefused, OutOfMemory}
+
+-- there are no words, or they ask for the sample of a number
+abbrev pub AreKnownWords : List (List ℕ) → Type 0
+AreKnownWords words = (words ≡ []) ⊎ ((k : ℕ) × IsSampleWords words k)
 
 -- What is seen of a run: the words, what the source has left and the sink has written where they tell it, their counts of faults, and the status.
 pub record Call : Type 0 where
@@ -45,9 +50,9 @@ module _ (call : Call) where
   WritesRefusal = (script : List ℕ) → Reads script → NoFaults → call.status ≢ OutOfMemory → IsRefused script
       → (call.status ≡ ScriptRefused) × (call.left_after ≡ Some []) × Wrote (IsRunText script)
 
-  -- Words are refused exactly where there are any, and then nothing is read or written.
+  -- Words are refused exactly where there are some and they ask for no sample, and then nothing is read or written.
   pub record RefusesWords : Type 0 where
-    pub exactly : (call.status ≡ WordsRefused) ↔ (call.words ≢ [])
+    pub exactly : (call.status ≡ WordsRefused) ↔ (¬ (AreKnownWords call.words))
     pub nothing : call.status ≡ WordsRefused → (call.left_after ≡ call.left_before) × WroteNothing
 
   -- What was written by each status.
@@ -64,7 +69,7 @@ module _ (call : Call) where
   -- When each status comes. Want of memory is the one free answer.
   pub record HasCauses : Type 0 where
     pub read_fault : call.status ≡ ReadFault → (call.words ≡ []) × Rose call.read_faults_before call.read_faults_after
-    pub write_fault : call.status ≡ WriteFault → (call.words ≡ [])
+    pub write_fault : call.status ≡ WriteFault → AreKnownWords call.words
         × Rose call.write_faults_before call.write_faults_after
     -- exactly where more than the most was taken; without a read fault that is so for every longer script
     pub too_long : (script : List ℕ) → Reads script → call.status ≡ TooLong
@@ -81,6 +86,18 @@ module _ (call : Call) where
     pub refused : (script : List ℕ) → Reads script → NoFaults → IsRefused script
         → (call.status ≡ ScriptRefused) ⊎ (call.status ≡ OutOfMemory)
 
+  -- With the words of the sample of a number: nothing is read, and the four lines of its summary are written. The first two follow from the others.
+  pub record RunsSample (k : ℕ) : Type 0 where
+    pub headline : ¬ (Rose call.write_faults_before call.write_faults_after) → call.status ≢ OutOfMemory
+        → (call.status ≡ Done) × Wrote (IsSummary k)
+    pub completes : ¬ (Rose call.write_faults_before call.write_faults_after)
+        → (call.status ≡ Done) ⊎ (call.status ≡ OutOfMemory)
+    pub nothing_read : (call.left_after ≡ call.left_before) × (call.read_faults_after ≡ call.read_faults_before)
+    pub statuses : (call.status ≡ Done) ⊎ ((call.status ≡ WriteFault) ⊎ (call.status ≡ OutOfMemory))
+    pub done : call.status ≡ Done → Wrote (IsSummary k)
+    pub cut_off : (call.status ≡ WriteFault) ⊎ (call.status ≡ OutOfMemory)
+        → Wrote (λ bytes. (bytes ≡ []) ⊎ ((text : List ℕ) × IsSummary k text × IsPrefix bytes text))
+
   -- The counts of faults don't fall, and fit their type.
   pub record CountsFaults : Type 0 where
     pub read_faults : call.read_faults_before ≤ call.read_faults_after
@@ -95,4 +112,5 @@ module _ (call : Call) where
     pub words : RefusesWords
     pub written : WritesByStatus
     pub causes : HasCauses
+    pub sample : (k : ℕ) → IsSampleWords call.words k → RunsSample k
     pub counts : CountsFaults

@@ -18,10 +18,22 @@ IsRightFor q a = IsRightAnswer (residue_ring q.p) (inverse_mod q.p) (residue_num
 abbrev pub text_of : Asked → Answer ℕ → List ℕ
 text_of q a = answer_text (residue_numbers q.p) q.name a
 
+-- one right answer to each question, in order
+abbrev pub AreRight : List Asked → List (Answer ℕ) → Type 0
+AreRight [] [] = Unit {0}
+AreRight [] (a ∷ more) = ⊥
+AreRight (q ∷ qs) [] = ⊥
+AreRight (q ∷ qs) (a ∷ more) = IsRightFor q a × AreRight qs more
+
+-- the texts of the answers to these questions, in order
+abbrev pub texts_of : List Asked → List (Answer ℕ) → List ℕ
+texts_of [] given = []
+texts_of (q ∷ qs) [] = []
+texts_of (q ∷ qs) (a ∷ more) = text_of q a ++ texts_of qs more
+
 -- the bytes are the texts of one right answer to each question, in order
 abbrev pub AreAnswers : List Asked → List ℕ → Type 0
-AreAnswers [] bytes = bytes ≡ []
-AreAnswers (q ∷ qs) bytes = (a : Answer ℕ) × (rest : List ℕ) × IsRightFor q a × AreAnswers qs rest × (bytes ≡ text_of q a ++ rest)
+AreAnswers qs bytes = (given : List (Answer ℕ)) × AreRight qs given × (bytes ≡ texts_of qs given)
 
 -- the text of a course: the answers to its questions, and the line of its refusal
 abbrev pub IsTextOf : Course → List ℕ → Type 0
