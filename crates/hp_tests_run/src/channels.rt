@@ -2,10 +2,9 @@
 
 ghost use Rattle.std.specs.Prelude.{◌≤◌, IfOk};
 
-use crate::halting::HaltingSource;
 use hp_io::{
-    Failed, FirmSink, FirmSource, ReadEnd, Sink, SinkEnd, Source, StdinSource, StdoutSink,
-    read_all, write_all,
+    Failed, FirmSink, FirmSource, MemSink, MemSource, ReadEnd, Sink, SinkEnd, Source, StdinSource,
+    StdoutSink, read_all, write_all,
 };
 use std::alloc::Global;
 use std::io;
@@ -45,11 +44,7 @@ fn reads_to_the_end(rt: HostRuntime) -> Result<(), Fail> {
         (long.as_slice(), 19_999, false),
     ] {
         let firm = FirmSource::new(Vec::from_slice(alloc, bytes)?);
-        let slow = HaltingSource {
-            source: FirmSource::new(Vec::from_slice(alloc, bytes)?),
-            calls: usize::MAX,
-            faults: 0,
-        };
+        let slow = MemSource::new(Vec::from_slice(alloc, bytes)?, 1, Vec::new(alloc));
         let want = if fits {
             Ok(Vec::from_slice(alloc, bytes)?)
         } else {
@@ -57,6 +52,33 @@ fn reads_to_the_end(rt: HostRuntime) -> Result<(), Fail> {
         };
         assert_eq!(rt; answer(alloc, firm, max), want, "{max}");
         assert_eq!(rt; answer(alloc, slow, max), want, "{max}");
+    }
+    Ok(())
+}
+
+/// In memory a call moves at most so many bytes, and none where its number is chosen.
+#[test]
+fn moves_and_fails_as_chosen(rt: HostRuntime) -> Result<(), Fail> {
+    let alloc = rt.alloc();
+    let mut buf = [0; 4];
+    let mut source = MemSource::new(
+        Vec::from_slice(alloc, b"abcdefg")?,
+        3,
+        vec![in alloc; 2, 4]?,
+    );
+    let mut sink = MemSink::new(alloc, 3, vec![in alloc; 5, 2]?);
+    for (read, bytes, taken, written) in [
+        (Ok(3), b"abc".as_slice(), Ok(3), b"123".as_slice()),
+        (Err(Failed), b"abc", Err(SinkEnd::Failed), b"123"),
+        (Ok(3), b"def", Ok(3), b"123123"),
+        (Err(Failed), b"def", Ok(3), b"123123123"),
+        (Ok(1), b"gef", Err(SinkEnd::Failed), b"123123123"),
+        (Ok(0), b"gef", Ok(3), b"123123123123"),
+    ] {
+        assert_eq!(rt; source.read(&mut buf), read);
+        assert_eq!(rt; &buf[..3], bytes);
+        assert_eq!(rt; sink.write(b"1234"), taken);
+        assert_eq!(rt; sink.written(), written);
     }
     Ok(())
 }

@@ -4,6 +4,8 @@
 #[cfg(test)]
 mod channels;
 #[cfg(test)]
-mod halting;
+mod filled;
+#[cfg(test)]
+mod session;
 #[cfg(test)]
 mod top;

@@ -1,12 +1,14 @@
 //! Whole runs, over sources and sinks in memory, with texts and statuses worked by hand.
 
-use crate::halting::{HaltingSink, HaltingSource};
-use hp_io::{FirmSink, FirmSource, SinkEnd};
+use crate::filled::FilledSink;
+use hp_io::{FirmSink, FirmSource, MemSink, MemSource};
 use hp_top::{Status, run};
 use std::alloc::Global;
 use std::test::Fail;
 
 const FIRST: &[u8] = b"field 31\nlet A = forms 2 [1 0, 0 1, 1 -1]\npoint A\n";
+
+const TEXT: &[u8] = b"point A: 1 2\n";
 
 /// What a run of the script ends with and writes.
 fn outcome(alloc: Global, script: &[u8]) -> Result<(Status, FirmSink), Fail> {
@@ -20,7 +22,7 @@ fn outcome(alloc: Global, script: &[u8]) -> Result<(Status, FirmSink), Fail> {
 #[test]
 fn answers_and_refusals(rt: HostRuntime) -> Result<(), Fail> {
     for (script, status, written) in [
-        (FIRST, Status::Done, b"point A: 1 2\n".as_slice()),
+        (FIRST, Status::Done, TEXT),
         (b"", Status::Done, b""),
         (
             b"rank A\npoint",
@@ -31,6 +33,11 @@ fn answers_and_refusals(rt: HostRuntime) -> Result<(), Fail> {
             b"field 5\nlet B = typeB 2\nrank B\nrank A",
             Status::ScriptRefused,
             b"rank B: 2\nrefused line 4: unknown name A\n",
+        ),
+        (
+            b"\xff",
+            Status::ScriptRefused,
+            b"refused line 1: syntax 1\n",
         ),
     ] {
         let (ended, sink) = outcome(rt.alloc(), script)?;
@@ -53,45 +60,84 @@ fn words_are_refused(rt: HostRuntime) -> Result<(), Fail> {
         );
         assert_eq!(rt; sink.written(), b"".as_slice());
         assert_eq!(rt; run(alloc, &[], &mut source, &mut sink), Status::Done);
-        assert_eq!(rt; sink.written(), b"point A: 1 2\n".as_slice());
+        assert_eq!(rt; sink.written(), TEXT);
     }
     Ok(())
 }
 
-/// A fault at each read and at each write in turn: a fault is answered as one, and nothing else is written.
+/// A fault at each read in turn, of a byte each: it is answered as one, and nothing is written.
 #[test]
-fn faults_are_told(rt: HostRuntime) -> Result<(), Fail> {
+fn failing_reads(rt: HostRuntime) -> Result<(), Fail> {
     let alloc = rt.alloc();
-    for calls in 0..FIRST.len() + 1 {
-        let mut source = HaltingSource {
-            source: FirmSource::new(Vec::from_slice(alloc, FIRST)?),
-            calls,
-            faults: 0,
-        };
+    for call in 1..53 {
+        let bytes = Vec::from_slice(alloc, FIRST)?;
+        let mut source = MemSource::new(bytes, 1, vec![in alloc; call]?);
         let mut sink = FirmSink::new(alloc);
+        let status = run(alloc, &[], &mut source, &mut sink);
+        if call < 52 {
+            assert_eq!(rt; status, Status::ReadFault, "{call}");
+            assert_eq!(rt; sink.written(), b"".as_slice(), "{call}");
+        } else {
+            assert_eq!(rt; status, Status::Done, "{call}");
+            assert_eq!(rt; sink.written(), TEXT, "{call}");
+        }
+    }
+    Ok(())
+}
+
+/// What a run of the script ends with over this sink, and the sink.
+fn outcome_over(alloc: Global, script: &[u8], sink: MemSink) -> Result<(Status, MemSink), Fail> {
+    let mut sink = sink;
+    let mut source = FirmSource::new(Vec::from_slice(alloc, script)?);
+    let status = run(alloc, &[], &mut source, &mut sink);
+    Ok((status, sink))
+}
+
+/// A fault at each write in turn, of a byte each, and some others: it is answered as one, and nothing more is written.
+#[test]
+fn failing_writes(rt: HostRuntime) -> Result<(), Fail> {
+    let alloc = rt.alloc();
+    for call in 1..15 {
+        let sink = MemSink::new(alloc, 1, vec![in alloc; call]?);
+        let (status, sink) = outcome_over(alloc, FIRST, sink)?;
+        let wanted = if call < 14 {
+            Status::WriteFault
+        } else {
+            Status::Done
+        };
+        assert_eq!(rt; status, wanted, "{call}");
+        assert_eq!(rt; sink.written().len() as u64, call - 1, "{call}");
+        assert!(rt; TEXT.starts_with(sink.written()), "{call}");
+    }
+    for (script, most, call, written) in [
+        (FIRST, 4, 2, b"poin".as_slice()),
+        (b"field 31\nlet A = forms 2 [1 2, 2 4]", 1, 5, b"refu"),
+        (b"field 31\nlet A = forms 2 [1 2, 2 4", 7, 1, b""),
+    ] {
+        let sink = MemSink::new(alloc, most, vec![in alloc; call]?);
+        let (status, sink) = outcome_over(alloc, script, sink)?;
+        assert_eq!(rt; status, Status::WriteFault, "{script:?}");
+        assert_eq!(rt; sink.written(), written, "{script:?}");
+    }
+    Ok(())
+}
+
+/// Want of memory at each write in turn, of a byte each, is the end of the run too.
+#[test]
+fn sinks_without_memory(rt: HostRuntime) -> Result<(), Fail> {
+    let alloc = rt.alloc();
+    for room in 0..TEXT.len() {
+        let mut source = FirmSource::new(Vec::from_slice(alloc, FIRST)?);
+        let mut sink = FilledSink {
+            sink: FirmSink::new(alloc),
+            room,
+        };
         assert_eq!(rt;
             run(alloc, &[], &mut source, &mut sink),
-            Status::ReadFault,
-            "{calls}"
+            Status::OutOfMemory,
+            "{room}"
         );
-        assert_eq!(rt; sink.written(), b"".as_slice());
-    }
-    let text = b"point A: 1 2\n";
-    for calls in 0..text.len() {
-        for (end, status) in [
-            (SinkEnd::Failed, Status::WriteFault),
-            (SinkEnd::Memory, Status::OutOfMemory),
-        ] {
-            let mut source = FirmSource::new(Vec::from_slice(alloc, FIRST)?);
-            let mut sink = HaltingSink {
-                sink: FirmSink::new(alloc),
-                calls,
-                end,
-                faults: 0,
-            };
-            assert_eq!(rt; run(alloc, &[], &mut source, &mut sink), status, "{calls}");
-            assert_eq!(rt; sink.sink.written(), &text[..calls]);
-        }
+        assert_eq!(rt; sink.sink.written(), &TEXT[..room]);
     }
     Ok(())
 }
@@ -101,8 +147,9 @@ fn faults_are_told(rt: HostRuntime) -> Result<(), Fail> {
 fn the_longest_script(rt: HostRuntime) -> Result<(), Fail> {
     let alloc = rt.alloc();
     for (length, status) in [(1_048_576, Status::Done), (1_048_577, Status::TooLong)] {
-        let (ended, sink) = outcome(alloc, &vec![in alloc; b'#'; length]?)?;
-        assert_eq!(rt; ended, status, "{length}");
+        let mut source = MemSource::new(vec![in alloc; b'#'; length]?, 4096, Vec::new(alloc));
+        let mut sink = FirmSink::new(alloc);
+        assert_eq!(rt; run(alloc, &[], &mut source, &mut sink), status, "{length}");
         assert_eq!(rt; sink.written(), b"".as_slice());
     }
     Ok(())
