@@ -8,3 +8,4 @@ rank sums
 characteristic sums
 flats sums
 point sums
+free sums

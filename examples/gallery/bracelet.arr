@@ -7,3 +7,4 @@ rank bracelet
 characteristic bracelet
 flats bracelet
 point bracelet
+free bracelet

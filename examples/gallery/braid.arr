@@ -8,3 +8,4 @@ rank braid
 characteristic braid
 flats braid
 point braid
+free braid

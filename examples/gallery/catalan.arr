@@ -13,3 +13,5 @@ rank catalan4
 characteristic catalan4
 flats catalan4
 point catalan4
+free catalan3
+free catalan4

@@ -8,3 +8,4 @@ rank Desargues
 characteristic Desargues
 flats Desargues
 point Desargues
+free Desargues

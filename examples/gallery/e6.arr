@@ -12,3 +12,4 @@ hyperplanes R
 rank R
 characteristic R
 point R
+free E6

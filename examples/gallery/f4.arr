@@ -10,3 +10,4 @@ flats F4
 point F4
 let R = restrict F4 1
 hyperplanes R
+free F4

@@ -8,3 +8,4 @@ rank H3
 characteristic H3
 flats H3
 point H3
+free H3

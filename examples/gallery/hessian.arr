@@ -9,3 +9,4 @@ rank Hessian
 characteristic Hessian
 flats Hessian
 point Hessian
+free Hessian

@@ -13,3 +13,5 @@ rank linial4
 characteristic linial4
 flats linial4
 point linial4
+free linial3
+free linial4

@@ -8,3 +8,4 @@ rank MacLane
 characteristic MacLane
 flats MacLane
 point MacLane
+free MacLane

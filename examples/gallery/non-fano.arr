@@ -8,3 +8,4 @@ rank nonFano
 characteristic nonFano
 flats nonFano
 point nonFano
+free nonFano

@@ -8,3 +8,4 @@ rank Pappus
 characteristic Pappus
 flats Pappus
 point Pappus
+free Pappus

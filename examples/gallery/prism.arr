@@ -8,3 +8,4 @@ rank prism
 characteristic prism
 flats prism
 point prism
+free prism

@@ -14,3 +14,5 @@ rank shi4
 characteristic shi4
 flats shi4
 point shi4
+free shi3
+free shi4

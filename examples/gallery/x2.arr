@@ -8,3 +8,4 @@ rank X2
 characteristic X2
 flats X2
 point X2
+free X2

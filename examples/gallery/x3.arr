@@ -8,3 +8,4 @@ rank X3
 characteristic X3
 flats X3
 point X3
+free X3

@@ -14,3 +14,5 @@ rank second
 characteristic second
 flats second
 point second
+free first
+free second
