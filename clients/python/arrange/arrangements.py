@@ -1,0 +1,347 @@
+"""Arrangements of hyperplanes, and the questions that may be asked of one."""
+from __future__ import annotations
+
+from dataclasses import dataclass
+from fractions import Fraction
+from typing import Any, Iterable, List, Optional, Sequence, Tuple, Union
+
+from . import foreign
+from .answers import Flat, Freeness, Resolution, Triple
+from .builds import Build, Deleted, Family, Forms, Graphic, Restricted, Row, check_build
+from .errors import BadInput
+from .fields import Field, FieldLike, field_of, rational, whole_number
+from .linear_forms import Variables, numbered, parse_form, variables_of
+from .polynomials import ExteriorElement, GradedVector, Polynomial
+from .program import ask_one
+from .questions import Element, Limits, Multiplicities, Question
+
+FormLike = Union[str, Sequence[Any], Any]
+GREATEST = Field(32003)
+
+
+@dataclass(frozen=True)
+class Arrangement:
+    """A central arrangement over a prime field: how it is built, and the names of its variables.
+
+    >>> print(Arrangement.forms(["x", "y", "x - y"], 31))
+    3 hyperplanes in x, y over field 31: forms 2 [1 0, 0 1, 1 30]
+    """
+
+    field: Field
+    build: Build
+    variables: Tuple[str, ...]
+
+    def __post_init__(self) -> None:
+        check_build(self.build, self.field)
+
+    # ---- how they are made
+
+    @classmethod
+    def forms(cls, forms: Iterable[FormLike], field: FieldLike = GREATEST, variables: Variables = None) -> Arrangement:
+        """The arrangement of linear forms: rows of numbers, texts, or polynomials of Sage.
+
+        >>> Arrangement.forms([[1, 0], [2, 0]], 31)
+        Traceback (most recent call last):
+            ...
+        arrange.errors.BadInput: form 2: it is a multiple of form 1 over the field with 31 elements
+        """
+        return cls._of_forms(list(forms), field_of(field), variables, is_cone=False)
+
+    @classmethod
+    def cone(cls, forms: Iterable[FormLike], field: FieldLike = GREATEST, variables: Variables = None) -> Arrangement:
+        """The cone over affine hyperplanes: rows that end in the constant, or texts or polynomials with one.
+
+        Its last variable is x of the next number where the others are x1, x2, .., and else h.
+
+        >>> print(Arrangement.cone(["x", "x - 1"], 31))
+        3 hyperplanes in x, h over field 31: cone 1 [1 0, 1 30]
+        """
+        return cls._of_forms(list(forms), field_of(field), variables, is_cone=True)
+
+    @classmethod
+    def _of_forms(cls, forms: List[FormLike], field: Field, variables: Variables, is_cone: bool) -> Arrangement:
+        numbers = 0
+        if forms and foreign.has_variables(forms[0]):
+            names, numbers = foreign.ring_of(forms)
+            rows = [_row_of_sage(form, names, f"form {i}", is_cone) for i, form in enumerate(forms, 1)]
+        elif any(isinstance(form, str) for form in forms):
+            names = variables_of(variables, _texts(forms))
+            rows = [_row_of_text(text, names, f"form {i}", is_cone) for i, text in enumerate(_texts(forms), 1)]
+        else:
+            given = [_numbers_of(form, f"form {i}") for i, form in enumerate(forms, 1)]
+            rows = [_row_of_numbers(row, f"form {i}") for i, row in enumerate(given, 1)]
+            names = _names_of_rows(rows, variables, is_cone)
+            numbers = foreign.characteristic_of_rows(given)
+        if is_cone:
+            names += (_homogenizing(names),)
+        return cls(field, Forms(len(names), tuple(rows), is_cone, numbers), names)
+
+    @classmethod
+    def type_a(cls, rank: int, field: FieldLike = GREATEST) -> Arrangement:
+        """The braid arrangement: x_i - x_j in rank + 1 variables.
+
+        >>> len(Arrangement.type_a(3))
+        6
+        """
+        return cls._family("typeA", rank, field)
+
+    @classmethod
+    def type_b(cls, rank: int, field: FieldLike = GREATEST) -> Arrangement:
+        """The coordinates, and x_i - x_j and x_i + x_j."""
+        return cls._family("typeB", rank, field)
+
+    @classmethod
+    def type_d(cls, rank: int, field: FieldLike = GREATEST) -> Arrangement:
+        """x_i - x_j and x_i + x_j."""
+        return cls._family("typeD", rank, field)
+
+    @classmethod
+    def boolean(cls, rank: int, field: FieldLike = GREATEST) -> Arrangement:
+        """The coordinate hyperplanes."""
+        return cls._family("boolean", rank, field)
+
+    @classmethod
+    def _family(cls, word: str, rank: int, field: FieldLike) -> Arrangement:
+        build = Family(word, whole_number(rank, "rank"))
+        return cls(field_of(field), build, numbered(build.dimension))
+
+    @classmethod
+    def graphic(cls, vertices: int, edges: Iterable[Tuple[int, int]], field: FieldLike = GREATEST) -> Arrangement:
+        """The arrangement of a graph with the vertices 1, 2, .. and these edges, in their order.
+
+        >>> Arrangement.graphic(3, [(1, 2), (2, 3), (2, 1)])
+        Traceback (most recent call last):
+            ...
+        arrange.errors.BadInput: edge 3: 2-1 joins what edge 1 joins
+        """
+        count = whole_number(vertices, "vertices")
+        pairs = tuple(_edge(it, k) for k, it in enumerate(edges, 1))
+        return cls(field_of(field), Graphic(count, pairs), numbered(count))
+
+    @classmethod
+    def from_graph(cls, graph: Any, field: FieldLike = GREATEST) -> Arrangement:
+        """The arrangement of a graph of networkx or Sage, whose vertices and edges are counted in their order."""
+        return cls.graphic(*foreign.edges_of_graph(graph), field=field)
+
+    @classmethod
+    def from_sage(cls, arrangement: Any, field: FieldLike = GREATEST) -> Arrangement:
+        """A central hyperplane arrangement of Sage, over the rationals or over the same field, in its order."""
+        rows, variables, numbers = foreign.rows_of_sage(arrangement)
+        return cls(field_of(field), Forms(len(variables), rows, False, numbers), variables)
+
+    def delete(self, index: int) -> Arrangement:
+        """The arrangement without a hyperplane."""
+        return Arrangement(self.field, Deleted(self.build, whole_number(index, "hyperplane")), self.variables)
+
+    def restrict(self, index: int) -> Arrangement:
+        """The arrangement that the others cut out of a hyperplane, in the coordinates that the program chooses."""
+        build = Restricted(self.build, whole_number(index, "hyperplane"))
+        return Arrangement(self.field, build, numbered(build.dimension))
+
+    def over(self, field: FieldLike) -> Arrangement:
+        """The same arrangement over another field: its integers and fractions are taken into that one."""
+        return Arrangement(field_of(field), self.build, self.variables)
+
+    # ---- what they are
+
+    @property
+    def dimension(self) -> int:
+        return self.build.dimension
+
+    def __len__(self) -> int:
+        """How many hyperplanes there are. Of a restriction the program is asked."""
+        count = self.build.count()
+        return len(self.hyperplanes()) if count is None else count
+
+    def __bool__(self) -> bool:
+        return True
+
+    def __str__(self) -> str:
+        count = self.build.count()
+        many = "a restriction" if count is None else f"{count} hyperplane{'s' * (count != 1)}"
+        text = _shown(self.build, self.field)
+        return f"{many} in {', '.join(self.variables)} over {self.field}: {text}"
+
+    # ---- what may be asked of them
+
+    def hyperplanes(self) -> List[Tuple[int, ...]]:
+        """The forms: their coefficients as residues.
+
+        >>> Arrangement.type_a(2, 31).restrict(1).hyperplanes()
+        [(1, 30)]
+        """
+        return ask_one(Question.hyperplanes(self), list)
+
+    def point(self) -> Tuple[int, ...]:
+        """The lexicographically least point off all hyperplanes.
+
+        >>> Arrangement.type_b(3, 101).point()
+        (1, 2, 3)
+        """
+        return ask_one(Question.point(self), tuple)
+
+    def rank(self) -> int:
+        """The rank: the codimension of what all hyperplanes have in common."""
+        return ask_one(Question.rank(self), int)
+
+    def flats(self) -> List[Flat]:
+        """Every flat once, by rank, then by size, then lexicographically.
+
+        >>> [str(flat) for flat in Arrangement.boolean(2).flats()]
+        ['0: {}', '1: {1}', '1: {2}', '2: {1 2}']
+        """
+        return ask_one(Question.flats(self), list)
+
+    def poincare(self) -> Polynomial:
+        """The Poincaré polynomial.
+
+        >>> print(Arrangement.type_a(3).poincare())
+        6*t^3 + 11*t^2 + 6*t + 1
+        """
+        return ask_one(Question.poincare(self), Polynomial)
+
+    def characteristic(self) -> Polynomial:
+        """The characteristic polynomial.
+
+        >>> Arrangement.type_a(3).characteristic().coefficients()
+        [0, -6, 11, -6, 1]
+        """
+        return ask_one(Question.characteristic(self), Polynomial)
+
+    def triple(self, index: int) -> Triple:
+        """The Poincaré polynomials of the arrangement, of its deletion and of its restriction.
+
+        >>> triple = Arrangement.forms(["x", "y", "x - y"], 31).triple(3)
+        >>> print(triple.whole, "|", triple.deleted, "|", triple.restricted)
+        2*t^2 + 3*t + 1 | t^2 + 2*t + 1 | t + 1
+        """
+        return ask_one(Question.triple(self, index), Triple)
+
+    def circuits(self) -> List[Tuple[int, ...]]:
+        """Every minimal dependent set of hyperplanes.
+
+        >>> Arrangement.graphic(4, [(1, 2), (2, 3), (3, 4), (4, 1)]).circuits()
+        [(1, 2, 3, 4)]
+        """
+        return ask_one(Question.circuits(self), list)
+
+    def nbc(self) -> List[Tuple[int, ...]]:
+        """Every set of hyperplanes that contains no broken circuit.
+
+        >>> Arrangement.forms(["x", "y", "x - y"], 31).nbc()
+        [(), (1,), (2,), (3,), (1, 2), (1, 3)]
+        """
+        return ask_one(Question.nbc(self), list)
+
+    def normal(self, element: Element) -> ExteriorElement:
+        """The normal form of an element of the Orlik-Solomon algebra: a text, or residues by tuples of hyperplanes.
+
+        >>> A = Arrangement.forms(["x", "y", "x - y"], 31)
+        >>> print(A.normal("e3*e2 + 2*e1 - 5"))
+        -5 + 2*e1 + e1*e2 - e1*e3
+        >>> A.normal({(3, 2): 1, (1,): 2, (): -5}) == A.normal("e3*e2 + 2*e1 - 5")
+        True
+        """
+        return ask_one(Question.normal(self, element), ExteriorElement)
+
+    def aomoto(self, weights: Sequence[Any]) -> List[int]:
+        """The dimensions of the cohomology of that algebra under the product with the sum of w_i e_i.
+
+        >>> Arrangement.forms(["x", "y", "x - y"], 31).aomoto([1, 1, -2])
+        [0, 1, 1]
+        """
+        return ask_one(Question.aomoto(self, weights), list)
+
+    def gb(self, multiplicities: Multiplicities = None, limits: Limits = Limits()) -> List[GradedVector]:
+        """The reduced Gröbner basis of the module of logarithmic derivations.
+
+        >>> [str(it) for it in Arrangement.forms(["x", "y", "x - y"], 31).gb()]
+        ['(x, y)', '(0, x*y - y^2)']
+        """
+        return ask_one(Question.gb(self, multiplicities, limits), list)
+
+    def der(self, multiplicities: Multiplicities = None, limits: Limits = Limits()) -> List[GradedVector]:
+        """Minimal generators of the module of logarithmic derivations.
+
+        >>> [it.degree for it in Arrangement.forms(["x", "y", "z", "x + y + z"], 31).der()]
+        [1, 2, 2, 2]
+        """
+        return ask_one(Question.der(self, multiplicities, limits), list)
+
+    def resolve(self, multiplicities: Multiplicities = None, limits: Limits = Limits()) -> Resolution:
+        """A minimal free resolution of that module, with its Betti numbers."""
+        return ask_one(Question.resolve(self, multiplicities, limits), Resolution)
+
+    def free(self, multiplicities: Multiplicities = None, limits: Limits = Limits()) -> Freeness:
+        """Whether that module is free: with a basis and a certificate, or with the number of its generators."""
+        return ask_one(Question.free(self, multiplicities, limits), Freeness)
+
+
+def _shown(build: Build, field: Field) -> str:
+    """How it is built, as in a script, with what a deletion or restriction is made of in parentheses."""
+    return build.line(field, lambda whole: f"({_shown(whole, field)})")
+
+
+# ---- rows
+
+
+def _texts(forms: Sequence[FormLike]) -> List[str]:
+    texts = []
+    for i, form in enumerate(forms, 1):
+        if not isinstance(form, str):
+            raise BadInput(f"form {i}", f"{form!r} is no text, as other forms are")
+        texts.append(form)
+    return texts
+
+
+def _numbers_of(form: FormLike, place: str) -> Tuple[Any, ...]:
+    try:
+        return tuple(form)
+    except TypeError:
+        raise BadInput(place, f"{form!r} is no row of numbers, no text and no polynomial of Sage") from None
+
+
+def _row_of_numbers(row: Tuple[Any, ...], place: str) -> Row:
+    return tuple(rational(it, f"{place}, coefficient {j}") for j, it in enumerate(row, 1))
+
+
+def _row_of_text(text: str, names: Tuple[str, ...], place: str, is_cone: bool) -> Row:
+    row, constant = parse_form(text, names, place)
+    return _with_constant(row, constant, place, is_cone)
+
+
+def _row_of_sage(form: Any, names: Tuple[str, ...], place: str, is_cone: bool) -> Row:
+    row, constant = foreign.coefficients_of(form, names, place)
+    return _with_constant(row, constant, place, is_cone)
+
+
+def _with_constant(row: List[Fraction], constant: Fraction, place: str, is_cone: bool) -> Row:
+    if constant and not is_cone:
+        raise BadInput(place, f"it has the constant {constant}; Arrangement.cone takes affine forms")
+    return (*row, constant) if is_cone else tuple(row)
+
+
+def _names_of_rows(rows: Sequence[Row], variables: Variables, is_cone: bool) -> Tuple[str, ...]:
+    """The names of the variables of rows of numbers, which must all have as many."""
+    if variables is None and not rows:
+        raise BadInput("variables", "without forms the number of variables has to be given")
+    names = numbered(len(rows[0]) - is_cone) if variables is None else variables_of(variables, [])
+    for i, row in enumerate(rows, 1):
+        if len(row) != len(names) + is_cone:
+            raise BadInput(f"form {i}", f"it has {len(row)} numbers where {len(names) + is_cone} are wanted")
+    return names
+
+
+def _homogenizing(names: Tuple[str, ...]) -> str:
+    """The name of the last variable of a cone."""
+    if names == numbered(len(names)):
+        return f"x{len(names) + 1}"
+    return next(name for name in ("h", *(f"h{k}" for k in range(len(names)))) if name not in names)
+
+
+def _edge(edge: Optional[Sequence[Any]], number: int) -> Tuple[int, int]:
+    try:
+        first, second = edge  # type: ignore[misc]
+    except (TypeError, ValueError):
+        raise BadInput(f"edge {number}", f"{edge!r} is no pair of vertices") from None
+    return whole_number(first, f"edge {number}"), whole_number(second, f"edge {number}")
