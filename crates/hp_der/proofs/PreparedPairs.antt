@@ -9,8 +9,8 @@ use mathlib.Core.Path.{sym, ap, ◌∙◌, subst}
 use native.Mathlib.Omega.{arith}
 use Rattle.hp_algebra.specs.Ring.{RingOf, greatest_weight_of}
 use Rattle.hp_mono.specs.declared.term.Term.{Term}
-use Rattle.hp_mono.specs.Monomials.{Monomial, IsMonomial, degree, lcm, max_degree, vars}
-use Rattle.hp_mono.proofs.MonomialLaws.{cofactor, cofactor-monomial, cofactor_product, degree_product}
+use Rattle.hp_mono.specs.Monomials.{Monomial, IsMonomial, degree, lcm, max_degree, vars, cofactor}
+use Rattle.hp_mono.proofs.MonomialLaws.{cofactor-monomial, cofactor_product, degree_product}
 use Rattle.hp_poly.specs.Polynomials.{IsHomogeneous, poly_ring, term_poly}
 use Rattle.hp_poly.specs.Degrees.{degree_most}
 use Rattle.hp_module.specs.Vectors.{Vector, IsVector, IsHomogeneousVector, vector_plus, vector_scale}

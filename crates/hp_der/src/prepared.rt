@@ -1,13 +1,10 @@
 //! A basis with its leads, prepared for division, and the constants that the divisions of its critical pairs give.
 
-ghost use Rattle.std.specs.Prelude.{◌≡◌, ◌≢◌, ◌↔◌, ◌≤◌, ◌<◌, ◌-◌, ◌+◌, ◌++◌, ◌∷◌, ◌⊎◌, ⊤, ℕ, [], All, IfOk, IsTrue, length, map, replicate, slice_index_or};
-ghost use Rattle.hp_mono.specs.Monomials.{IsMonomialUpTo, degree, lcm, max_degree};
-ghost use Rattle.hp_mono.proofs.MonomialLaws.{cofactor as cofactor_of};
-ghost use Rattle.hp_algebra.specs.Ring.{greatest_weight_of};
-ghost use Rattle.hp_poly.specs.Polynomials.{poly_ring, term_poly};
-ghost use Rattle.hp_module.specs.Vectors.{IsVector, vector_scale, zero_vector};
+ghost use Rattle.std.specs.Prelude.{◌≡◌, ◌≢◌, ◌↔◌, ◌≤◌, ◌<◌, ◌-◌, ◌+◌, ⊤, ℕ, [], All, IfOk, IsTrue, length, map, replicate, slice_index_or};
+ghost use Rattle.hp_mono.specs.Monomials.{degree, lcm};
+ghost use Rattle.hp_module.specs.Vectors.{IsVector, zero_vector};
 ghost use Rattle.hp_module.specs.Leads.{IsGreatestTerm, no_term};
-ghost use Rattle.hp_module.specs.CriticalPairs.{lcm_degree, pair_vector as pair_vector_of};
+ghost use Rattle.hp_module.specs.CriticalPairs.{pair_vector as pair_vector_of};
 ghost use Rattle.hp_module.specs.ElimOrders.{elimination_order};
 ghost use Rattle.hp_module.specs.FallingTerms.{AreDivisors, with_leads};
 ghost use Rattle.hp_graded.specs.RelationConstants.{ArePairRows, IsDegreeRange, IsPairOf, IsPairRow, constant_row as constant_row_of, degree_at, falling};
@@ -102,28 +99,6 @@ fn no_shifts(alloc: Global, width: usize) -> Result<Grading, NoMem>
     })
 }
 
-/// What the least common multiple of two monomials has more than the first.
-fn cofactor(a: &Mono, b: &Mono) -> Mono
-    requires { degree (lcm a.now b.now) ≤ max_degree }
-    ensures value { result ≡ cofactor_of a.now b.now }
-{
-    match a.lcm(b).quotient(a) {
-        Some(quotient) => quotient,
-        None => Mono::one(),
-    }
-}
-
-/// The multiple of a vector by c times a monomial.
-fn scaled<F: Field>(alloc: Global, v: &ModVec<F>, c: F, m: Mono) -> Result<ModVec<F>, NoMem>
-    requires { degree m + greatest_weight_of (poly_ring F.ring) v.now ≤ max_degree }
-    ensures { IfOk result (λ r. r ≡ vector_scale F.ring (term_poly F.ring c m) v.now) }
-{
-    let mut terms = Vec::new(alloc);
-    terms.push((m, c))?;
-    let factor = Poly::from_terms(alloc, terms)?;
-    v.m_scale(alloc, &factor)
-}
-
 /// The constants of these polynomials from the one before `stop` down to `start`.
 fn constant_row<F: Field>(
     alloc: Global,
@@ -200,10 +175,10 @@ impl<F: Field> Prepared<F> {
         ensures { IfOk result (λ v. v ≡ pair_vector_of F.ring (led_by basis.now self.now.leads) j i F.ring.one F.ring.one) }
     {
         let members = basis.members();
-        let up = cofactor(&self.leads[i].mono, &self.leads[j].mono);
-        let down = cofactor(&self.leads[j].mono, &self.leads[i].mono);
-        let first = scaled(alloc, &members[i], F::unit(), up)?;
-        let second = scaled(alloc, &members[j], F::unit().negate(), down)?;
+        let up = self.leads[i].mono.cofactor(&self.leads[j].mono);
+        let down = self.leads[j].mono.cofactor(&self.leads[i].mono);
+        let first = members[i].times_term(alloc, F::unit(), up)?;
+        let second = members[j].times_term(alloc, F::unit().negate(), down)?;
         first.m_add(alloc, &second)
     }
 

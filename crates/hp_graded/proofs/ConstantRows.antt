@@ -13,9 +13,9 @@ use Rattle.hp_linear.specs.Spaces.{IsCombination}
 use Rattle.hp_linear.proofs.Combinations.{span-plus, span-scale, span-zero}
 use Rattle.hp_mono.specs.declared.term.Term.{Term}
 use Rattle.hp_mono.specs.Monomials as mono
-use Rattle.hp_mono.specs.Monomials.{Monomial, IsMonomial, degree, lcm, product, vars}
+use Rattle.hp_mono.specs.Monomials.{Monomial, IsMonomial, degree, lcm, product, vars, cofactor}
 use Rattle.hp_mono.specs.TermOrders.{IsTermWithin, TermDivides, times}
-use Rattle.hp_mono.proofs.MonomialLaws.{cofactor, cofactor-monomial, cofactor_product, degree_product, lcm_comm, product-one}
+use Rattle.hp_mono.proofs.MonomialLaws.{cofactor-monomial, cofactor_product, degree_product, lcm_comm, product-one}
 use Rattle.hp_sums.specs.FiniteSums.{total}
 use Rattle.hp_sums.proofs.SumSetting.{SumSetting}
 use Rattle.hp_sums.proofs.Collected.{total-append, total-value}

@@ -14,8 +14,8 @@ use Rattle.hp_lists.proofs.Members.{Contains-cases, Contains-filter, Contains-he
 use Rattle.hp_lists.proofs.Ordered.{Ordered-at, Ordered-filter, Ordered-push}
 use Rattle.hp_mono.specs.declared.term.Term.{Term}
 use Rattle.hp_mono.specs.Digits.{EachAtMost}
-use Rattle.hp_mono.specs.Monomials.{Divides, IsMonomial, Monomial, degree, lcm, max_degree, one, product}
-use Rattle.hp_mono.proofs.MonomialLaws.{cancel_product, cofactor, cofactor-monomial, cofactor_product, divides-most, lcm_comm, most-divides, product-monomial, product-one, product_assoc}
+use Rattle.hp_mono.specs.Monomials.{Divides, IsMonomial, Monomial, cofactor, degree, lcm, max_degree, one, product}
+use Rattle.hp_mono.proofs.MonomialLaws.{divides-most, lcm_comm, most-divides, product-monomial, product-one, product_assoc}
 use Rattle.hp_module.specs.Leads.{no_term}
 use Rattle.hp_groebner.specs.KeptCofactors.{AreMonomials, IsCovered, IsKeptWith, divides, without_multiples}
 use Rattle.hp_groebner.specs.PairQueues.{AreMinimalCofactors, IsCompanion, nth}
@@ -60,16 +60,6 @@ degree-lcm (x ∷ a) (y ∷ b) =
     let t = sum_by-cons (λ n. n) x a in
     let u = sum_by-cons (λ n. n) y b in
     omega (arith, r, s, t, u)
-
--- the lcm is a multiple of the first, by the cofactor alone
-pub divides-lcm : (a b : Monomial) → IsMonomial a → IsMonomial b → Divides a (lcm a b)
-divides-lcm a b la lb = (cofactor a b, cofactor-monomial a b la lb, cofactor_product a b (la ∙ sym lb))
-
-pub quotient-cofactor : (a b q : Monomial) → IsMonomial a → IsMonomial b → IsMonomial q → product q a ≡ lcm a b
-    → q ≡ cofactor a b
-quotient-cofactor a b q la lb lq e =
-    cancel_product q (cofactor a b) a (lq ∙ sym la) (cofactor-monomial a b la lb ∙ sym la)
-    (e ∙ sym (cofactor_product a b (la ∙ sym lb)))
 
 -- ---- the minimal ones
 

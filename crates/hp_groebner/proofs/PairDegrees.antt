@@ -6,9 +6,9 @@ use mathlib.Core.Logic.{inl, inr}
 use mathlib.Core.Path.{sym, ap, ◌∙◌}
 use native.Mathlib.Omega.{arith}
 use Rattle.hp_mono.specs.declared.term.Term.{Term}
-use Rattle.hp_mono.specs.Monomials.{Divides, IsMonomial, Monomial, degree, lcm, vars}
+use Rattle.hp_mono.specs.Monomials.{Divides, IsMonomial, Monomial, cofactor, degree, lcm, vars}
 use Rattle.hp_mono.specs.TermOrders.{TermDivides}
-use Rattle.hp_mono.proofs.MonomialLaws.{cofactor, cofactor-monomial, cofactor_product, degree_product, lcm_comm, product-degree_zero}
+use Rattle.hp_mono.proofs.MonomialLaws.{cofactor-monomial, cofactor_product, degree_product, lcm_comm, product-degree_zero}
 
 pub degree-lcm : (a b : Monomial) → IsMonomial a → IsMonomial b → degree (lcm a b) ≡ degree (cofactor a b) + degree a
 degree-lcm a b la lb =

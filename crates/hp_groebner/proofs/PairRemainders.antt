@@ -10,9 +10,8 @@ use native.Mathlib.Omega.{arith}
 use Rattle.hp_algebra.specs.Ring.{IsRing, IsCommutative}
 use Rattle.hp_mono.specs.declared.term.Term.{Term}
 use Rattle.hp_mono.specs.Monomials as mono
-use Rattle.hp_mono.specs.Monomials.{IsMonomial, degree}
+use Rattle.hp_mono.specs.Monomials.{IsMonomial, cofactor, degree}
 use Rattle.hp_mono.specs.TermOrders.{IsTermWithin, times}
-use Rattle.hp_mono.proofs.MonomialLaws.{cofactor}
 use Rattle.hp_mono.proofs.TermLaws.{times-one}
 use Rattle.hp_sums.specs.FiniteSums.{total}
 use Rattle.hp_sums.proofs.WeightedSums.{weighted, weighted_ext}

@@ -9,8 +9,7 @@ use mathlib.Core.Path.{refl, sym, ap, ◌∙◌, subst}
 use native.Mathlib.Omega.{arith}
 use Rattle.hp_lists.proofs.Members.{Contains-here, not_both}
 use Rattle.hp_mono.specs.declared.term.Term.{Term}
-use Rattle.hp_mono.specs.Monomials.{Divides, Monomial, one, product}
-use Rattle.hp_mono.proofs.MonomialLaws.{cofactor}
+use Rattle.hp_mono.specs.Monomials.{Divides, Monomial, cofactor, one, product}
 use Rattle.hp_module.specs.Leads.{no_term}
 use Rattle.hp_module.specs.CriticalPairs.{lcm_degree}
 use Rattle.hp_groebner.specs.declared.limits.Limits.{Limits}

@@ -3,8 +3,8 @@ use Rattle.std.specs.Prelude.{◌≡◌, ℕ, ◌+◌, ◌-◌, ◌<◌, ◌≤�
 use Rattle.std.proofs.lemmas.List.{get_or_default}
 use mathlib.Core.Path.{sym, ap, ◌∙◌, subst}
 use native.Mathlib.Omega.{arith}
-use Rattle.hp_mono.specs.Monomials.{degree, product}
-use Rattle.hp_mono.proofs.MonomialLaws.{cofactor, cofactor_product, lcm_comm}
+use Rattle.hp_mono.specs.Monomials.{cofactor, degree, product}
+use Rattle.hp_mono.proofs.MonomialLaws.{cofactor_product, lcm_comm}
 use Rattle.hp_module.specs.FreeModules.{degree_of}
 use Rattle.hp_module.specs.Leads.{lead_at, lead_times}
 use Rattle.hp_module.proofs.Criterion.{pair_symbol}

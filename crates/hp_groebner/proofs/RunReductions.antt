@@ -10,7 +10,8 @@ use Rattle.hp_algebra.proofs.Rings.{neg_mul}
 use Rattle.hp_mono.specs.declared.term.Term.{Term}
 use Rattle.hp_mono.specs.Monomials as mono
 use Rattle.hp_mono.specs.TermOrders.{TermDivides}
-use Rattle.hp_mono.proofs.MonomialLaws.{cofactor, cofactor-monomial}
+use Rattle.hp_mono.specs.Monomials.{cofactor}
+use Rattle.hp_mono.proofs.MonomialLaws.{cofactor-monomial}
 use Rattle.hp_module.specs.Vectors.{Vector, IsVector, IsGenerated, combination, vector_plus, zero_vector}
 use Rattle.hp_module.specs.FreeModules.{IsFreeModule, IsIn, HasDegree, coefficient_at, degree_of, terms}
 use Rattle.hp_module.specs.Leads.{IsGreatestTerm, WithLeads, lead_at, member_at, no_term}

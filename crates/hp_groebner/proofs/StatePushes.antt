@@ -6,8 +6,8 @@ use mathlib.Core.Path.{sym, ap, ◌∙◌, subst}
 use native.Mathlib.Omega.{arith}
 use Rattle.hp_algebra.specs.Ring.{RingOf, greatest_weight_of}
 use Rattle.hp_mono.specs.declared.term.Term.{Term}
-use Rattle.hp_mono.specs.Monomials.{IsMonomial, IsMonomialUpTo, Monomial, degree, lcm, max_degree}
-use Rattle.hp_mono.proofs.MonomialLaws.{cofactor, lcm_comm}
+use Rattle.hp_mono.specs.Monomials.{IsMonomial, IsMonomialUpTo, Monomial, cofactor, degree, lcm, max_degree}
+use Rattle.hp_mono.proofs.MonomialLaws.{lcm_comm}
 use Rattle.hp_poly.specs.Polynomials.{constant, poly_degree, poly_ring}
 use Rattle.hp_poly.specs.Degrees.{degree_most}
 use Rattle.hp_module.specs.Vectors.{Vector, vector_scale, zero_vector}

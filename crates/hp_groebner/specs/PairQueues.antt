@@ -1,8 +1,7 @@
 -- The critical pairs of a list of leads that are to be divided, by the degree of their lcm.
 use Rattle.std.specs.Prelude.{◌≡◌, ◌↔◌, ℕ, ◌+◌, ◌<◌, ◌≤◌, Bool, List, [], ◌∷◌, ◌++◌, length, All, Contains, IsTrue, Some, slice_get, slice_index_or}
 use Rattle.hp_mono.specs.declared.term.Term.{Term}
-use Rattle.hp_mono.specs.Monomials.{Monomial, Divides}
-use Rattle.hp_mono.proofs.MonomialLaws.{cofactor}
+use Rattle.hp_mono.specs.Monomials.{Monomial, Divides, cofactor}
 use Rattle.hp_module.specs.Leads.{no_term}
 use Rattle.hp_module.specs.CriticalPairs.{critical_pairs, lcm_degree}
 use Rattle.hp_groebner.specs.declared.limits.Limits.{Limits}

@@ -1,8 +1,7 @@
 //! The cofactors of a new lead with the leads of its component.
 
 ghost use Rattle.std.specs.Prelude.{◌≡◌, ◌↔◌, ℕ, ◌+◌, ◌==◌, ◌<◌, ◌≤◌, All, IfOk, IsTrue, OnOk, filter, length};
-ghost use Rattle.hp_mono.specs.Monomials.{IsMonomialUpTo, degree, lcm, max_degree};
-ghost use Rattle.hp_mono.proofs.MonomialLaws.{cofactor as cofactor_of};
+ghost use Rattle.hp_mono.specs.Monomials.{degree, max_degree};
 ghost use Rattle.hp_module.specs.CriticalPairs.{lcm_degree};
 ghost use Rattle.hp_groebner.specs.KeptCofactors.{AreMonomials, IsCovered, IsKeptWith, divides, without_multiples};
 ghost use Rattle.hp_groebner.specs.PairQueues.{AreMinimalCofactors, IsCompanion, nth};
@@ -10,20 +9,6 @@ ghost use Rattle.hp_groebner.specs.PairQueues.{AreMinimalCofactors, IsCompanion,
 use hp_algebra::NoMem;
 use hp_mono::{Mono, Term};
 use std::alloc::Global;
-
-/// What the least common multiple of two monomials has more than the first.
-pub(crate) fn cofactor(a: &Mono, b: &Mono) -> Mono
-    requires { degree (lcm a.now b.now) ≤ max_degree }
-    ensures left { IsMonomialUpTo max_degree a.now }
-    ensures right { IsMonomialUpTo max_degree b.now }
-    ensures answer { IsMonomialUpTo max_degree result }
-    ensures value { result ≡ cofactor_of a.now b.now }
-{
-    match a.lcm(b).quotient(a) {
-        Some(quotient) => quotient,
-        None => Mono::one(),
-    }
-}
 
 /// The minimal ones among the cofactors of a new lead with the leads of its component, each once and with the place of a
 /// lead that has it.
@@ -42,7 +27,7 @@ pub(crate) fn minimal_cofactors(
     for j in 0..leads.len() {
         let lead = leads[j];
         if lead.comp == t.comp {
-            keep(&mut kept, cofactor(&t.mono, &lead.mono), j)?;
+            keep(&mut kept, t.mono.cofactor(&lead.mono), j)?;
         }
     }
     Ok(kept)

@@ -1,9 +1,9 @@
 //! The members so far, and the division by them.
 
-ghost use Rattle.std.specs.Prelude.{◌≡◌, ◌≢◌, ◌≤◌, ℕ, ◌+◌, ◌<◌, IfErr, IfOk, OnOk, length};
+ghost use Rattle.std.specs.Prelude.{◌≡◌, ◌≢◌, ◌≤◌, ℕ, ◌+◌, ◌<◌, IfErr, IfOk};
 ghost use Rattle.hp_algebra.specs.Ring.{greatest_weight_of};
 ghost use Rattle.hp_mono.specs.Monomials.{degree, max_degree};
-ghost use Rattle.hp_poly.specs.Polynomials.{constant, poly_ring, term_poly};
+ghost use Rattle.hp_poly.specs.Polynomials.{constant, poly_ring};
 ghost use Rattle.hp_module.specs.Vectors.{Vector, vector_scale};
 ghost use Rattle.hp_module.specs.Divisions.{IsDivided};
 ghost use Rattle.hp_module.specs.FreeModules.{HasDegree, IsIn};
@@ -14,29 +14,14 @@ ghost use Rattle.hp_groebner.specs.LimitRules.{most_degree};
 ghost use Rattle.hp_groebner.specs.PairQueues.{IsPair, pair_degree};
 ghost use Rattle.hp_groebner.specs.Runs.{IsJob, IsOver, IsPushed, IsReduced, IsRun, held, job, module_of};
 
-use crate::cofactors::cofactor;
 use crate::limits::Stop;
 use crate::queue::Queue;
 use crate::setting::Setting;
 use hp_algebra::{Field, Module, NoMem};
 use hp_module::{Divisors, ModVec};
 use hp_mono::{Mono, Term};
-use hp_poly::Poly;
 use std::alloc::Global;
 use std::marker::Model;
-
-/// The vector times a term.
-///
-/// Errors: `NoMem` where memory is out.
-fn scaled<F: Field>(alloc: Global, v: &ModVec<F>, m: Mono, c: F) -> Result<ModVec<F>, NoMem>
-    requires { degree m + greatest_weight_of (poly_ring F.ring) v.now ≤ max_degree }
-    ensures { IfOk result (λ r. r ≡ vector_scale F.ring (term_poly F.ring c m) v.now) }
-{
-    let mut terms = Vec::new(alloc);
-    terms.push((m, c))?;
-    let by = Poly::from_terms(alloc, terms)?;
-    v.m_scale(alloc, &by)
-}
 
 /// The vector divided by a number that isn't zero.
 ///
@@ -48,7 +33,7 @@ fn monic<F: Field>(alloc: Global, v: &ModVec<F>, c: F) -> Result<ModVec<F>, NoMe
 {
     match c.inv() {
         None => v.copy(alloc),
-        Some(inverse) => scaled(alloc, v, Mono::one(), inverse),
+        Some(inverse) => v.times_term(alloc, inverse, Mono::one()),
     }
 }
 
@@ -129,10 +114,10 @@ impl<F: Field> State<F> {
         ensures { IfOk result (λ v. v ≡ pair_vector F.ring (held self.now) earlier later F.ring.one F.ring.one) }
     {
         let leads = self.queue.leads();
-        let up = cofactor(&leads[later].mono, &leads[earlier].mono);
-        let down = cofactor(&leads[earlier].mono, &leads[later].mono);
-        let first = scaled(alloc, &self.members[later], up, F::unit())?;
-        let second = scaled(alloc, &self.members[earlier], down, F::unit().negate())?;
+        let up = leads[later].mono.cofactor(&leads[earlier].mono);
+        let down = leads[earlier].mono.cofactor(&leads[later].mono);
+        let first = self.members[later].times_term(alloc, F::unit(), up)?;
+        let second = self.members[earlier].times_term(alloc, F::unit().negate(), down)?;
         first.m_add(alloc, &second)
     }
 

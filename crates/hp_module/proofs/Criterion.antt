@@ -10,9 +10,9 @@ use native.Mathlib.Omega.{arith}
 use Rattle.hp_algebra.specs.Ring.{IsRing, IsCommutative}
 use Rattle.hp_algebra.proofs.Rings.{field-domain}
 use Rattle.hp_mono.specs.declared.term.Term.{Term}
-use Rattle.hp_mono.specs.Monomials.{Monomial, IsMonomial, degree, product, vars}
+use Rattle.hp_mono.specs.Monomials.{Monomial, IsMonomial, degree, product, vars, cofactor}
 use Rattle.hp_mono.specs.TermOrders.{IsTermOrder, IsTermWithin, TermDivides, times}
-use Rattle.hp_mono.proofs.MonomialLaws.{cancel_product, cofactor, cofactor-monomial, cofactor_product, common, lcm_comm, product-monomial, product_assoc}
+use Rattle.hp_mono.proofs.MonomialLaws.{cancel_product, cofactor-monomial, cofactor_product, common, lcm_comm, product-monomial, product_assoc}
 use Rattle.hp_mono.proofs.TermLaws.{term_divides-decided, times-times, times-within}
 use Rattle.hp_sums.specs.FiniteSums.{HasValues}
 use Rattle.hp_sums.proofs.SumSetting.{SumSetting}

@@ -8,9 +8,8 @@ use native.Mathlib.Omega.{arith}
 use Rattle.hp_algebra.specs.Ring.{IsRing, IsCommutative}
 use Rattle.hp_algebra.proofs.Rings.{neg_mul, zero_add}
 use Rattle.hp_mono.specs.declared.term.Term.{Term}
-use Rattle.hp_mono.specs.Monomials.{Monomial, IsMonomial, product}
+use Rattle.hp_mono.specs.Monomials.{Monomial, IsMonomial, product, cofactor}
 use Rattle.hp_mono.specs.TermOrders.{IsTermOrder, IsTermWithin, TermDivides, times}
-use Rattle.hp_mono.proofs.MonomialLaws.{cofactor}
 use Rattle.hp_sums.specs.FiniteSums.{HasValues, total}
 use Rattle.hp_sums.proofs.SumSetting.{SumSetting}
 use Rattle.hp_sums.proofs.Collected.{total-append, total-value}

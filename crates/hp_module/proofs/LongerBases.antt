@@ -10,9 +10,8 @@ use mathlib.Core.Path.{sym, ap, ◌∙◌, subst}
 use native.Mathlib.Omega.{arith}
 use Rattle.hp_algebra.specs.Ring.{IsRing, IsCommutative}
 use Rattle.hp_mono.specs.declared.term.Term.{Term}
-use Rattle.hp_mono.specs.Monomials.{product}
+use Rattle.hp_mono.specs.Monomials.{cofactor, product}
 use Rattle.hp_mono.specs.TermOrders.{IsTermWithin, times}
-use Rattle.hp_mono.proofs.MonomialLaws.{cofactor}
 use Rattle.hp_sums.specs.FiniteSums.{total}
 use Rattle.hp_sums.proofs.SumSetting.{SumSetting}
 use Rattle.hp_sums.proofs.WeightedSums.{weighted_ext}

@@ -8,9 +8,9 @@ use Rattle.hp_algebra.specs.Ring.{IsRing, IsCommutative}
 use Rattle.hp_algebra.proofs.Rings.{mul_zero}
 use Rattle.hp_mono.specs.declared.term.Term.{Term}
 use Rattle.hp_mono.specs.Monomials as mono
-use Rattle.hp_mono.specs.Monomials.{Monomial, IsMonomial, product}
+use Rattle.hp_mono.specs.Monomials.{Monomial, IsMonomial, product, cofactor}
 use Rattle.hp_mono.specs.TermOrders.{IsTermWithin, TermDivides, times}
-use Rattle.hp_mono.proofs.MonomialLaws.{cofactor, cofactor-monomial, product-one}
+use Rattle.hp_mono.proofs.MonomialLaws.{cofactor-monomial, product-one}
 use Rattle.hp_mono.proofs.TermLaws.{times-within}
 use Rattle.hp_sums.specs.FiniteSums.{HasValues}
 use Rattle.hp_sums.proofs.SumSetting.{SumSetting}

@@ -3,8 +3,7 @@ use Rattle.std.specs.Prelude.{ℕ, ◌==◌, List, [], ◌∷◌, ◌++◌, map,
 use Rattle.hp_algebra.specs.Ring.{RingOf}
 use Rattle.hp_mono.specs.declared.term.Term.{Term}
 use Rattle.hp_mono.specs.Monomials as mono
-use Rattle.hp_mono.specs.Monomials.{Monomial, degree}
-use Rattle.hp_mono.proofs.MonomialLaws.{cofactor}
+use Rattle.hp_mono.specs.Monomials.{Monomial, cofactor, degree}
 use Rattle.hp_poly.specs.Polynomials.{term_poly}
 use Rattle.hp_module.specs.Vectors.{Vector, vector_plus, vector_scale}
 use Rattle.hp_module.specs.Leads.{WithLeads, lead_at, member_at}

@@ -3,10 +3,11 @@
 ghost use Rattle.std.specs.Prelude.{◌≡◌, ◌↔◌, ℕ, ◌+◌, ◌-◌, ◌≤◌, List, [], ◌++◌, All, Contains, IfSome, IfOk, IsNone, IsTrue, MatchOption, length, slice_index_or};
 ghost use Rattle.std.specs.declared.cmp.Ordering.TheVariants.{Greater};
 ghost use Rattle.hp_mono.specs.declared.term.Term.{Term as TermOf};
-ghost use Rattle.hp_mono.specs.Monomials.{IsMonomial, degree};
+ghost use Rattle.hp_algebra.specs.Ring.{greatest_weight_of};
+ghost use Rattle.hp_mono.specs.Monomials.{IsMonomial, degree, max_degree};
 ghost use Rattle.hp_mono.specs.TermOrders.{IsTermWithin};
-ghost use Rattle.hp_poly.specs.Polynomials.{IsPoly, poly_ring};
-ghost use Rattle.hp_module.specs.Vectors.{IsVector, zero_vector};
+ghost use Rattle.hp_poly.specs.Polynomials.{IsPoly, poly_ring, term_poly};
+ghost use Rattle.hp_module.specs.Vectors.{IsVector, vector_scale, zero_vector};
 ghost use Rattle.hp_module.specs.FreeModules.{IsGraded, IsHomogeneousBy, term_degree, terms};
 ghost use Rattle.hp_module.specs.Leads.{IsGreatestTerm};
 ghost use Rattle.hp_module.specs.LeadSearch.{IsGreatestOf, component_terms};
@@ -15,7 +16,7 @@ ghost use Rattle.hp_poly.specs.PolyRing.{poly_is_ring};
 ghost use Rattle.hp_poly.specs.Degrees.{poly_weights};
 
 use crate::basis::Grading;
-use hp_algebra::{Field, Module, NoMem, Ring, greatest_weight};
+use hp_algebra::{Field, List, Module, NoMem, Ring, greatest_weight};
 use hp_mono::{Mono, Term, TermOrder};
 use hp_poly::Poly;
 use std::alloc::Global;
@@ -89,18 +90,41 @@ impl<F: Field> ModVec<F> {
         true
     }
 
+    /// A copy of the entries, as a row of a matrix.
+    ///
+    /// Errors: `NoMem` where memory is out.
+    pub fn row(&self, alloc: Global) -> Result<List<Poly<F>>, NoMem>
+        ensures { IfOk result (λ r. r ≡ self.now) }
+    {
+        let entries = self.entries();
+        let mut row = Vec::new(alloc);
+        for k in 0..entries.len() {
+            row.push(entries[k].copy(alloc)?)?;
+        }
+        Ok(List::of(row))
+    }
+
     /// A second one.
     ///
     /// Errors: `NoMem` where memory is out.
     pub fn copy(&self, alloc: Global) -> Result<ModVec<F>, NoMem>
         ensures { IfOk result (λ r. r ≡ self.now) }
     {
-        let entries = self.entries();
-        let mut copies = Vec::new(alloc);
-        for k in 0..entries.len() {
-            copies.push(entries[k].copy(alloc)?)?;
-        }
-        Ok(ModVec::new(copies))
+        Ok(ModVec::new(self.row(alloc)?.into_vec()))
+    }
+
+    /// The vector times c times a monomial. Its degrees and that of the monomial together are at most `MAX_DEGREE`.
+    ///
+    /// Errors: `NoMem` where memory is out.
+    pub fn times_term(&self, alloc: Global, c: F, m: Mono) -> Result<ModVec<F>, NoMem>
+        requires { degree m + greatest_weight_of (poly_ring F.ring) self.now ≤ max_degree }
+        ensures value { IfOk result (λ r. r ≡ vector_scale F.ring (term_poly F.ring c m) self.now) }
+        ensures width { IfOk result (λ r. length r ≡ length self.now) }
+    {
+        let mut terms = Vec::new(alloc);
+        terms.push((m, c))?;
+        let factor = Poly::from_terms(alloc, terms)?;
+        self.m_scale(alloc, &factor)
     }
 
     /// The greatest term with its coefficient, and none exactly of zero.

@@ -6,7 +6,7 @@ use mathlib.Core.Logic.{inl, inr}
 use mathlib.Core.Path.{refl, sym, ◌∙◌}
 use native.Mathlib.Omega.{arith}
 use Rattle.hp_mono.specs.Digits.{EachAtMost}
-use Rattle.hp_mono.specs.Monomials.{Monomial, IsMonomial, Divides, product, with_each, lcm, degree, one}
+use Rattle.hp_mono.specs.Monomials.{Monomial, IsMonomial, Divides, cofactor, product, with_each, lcm, degree, one}
 
 pub length-with_each : (f : ℕ → ℕ → ℕ) (a b : List ℕ) → length a ≡ length b → length (with_each f a b) ≡ length a
 length-with_each f [] b e = refl
@@ -115,10 +115,6 @@ divides-decided a b la lb =
 
 -- ---- least common multiples
 
--- what the lcm of a and b has more than a
-abbrev pub cofactor : Monomial → Monomial → Monomial
-cofactor a b = with_each ◌-◌ (lcm a b) a
-
 pub cofactor-monomial : (a b : Monomial) → IsMonomial a → IsMonomial b → IsMonomial (cofactor a b)
 cofactor-monomial a b la lb =
     let l = length-with_each max a b (la ∙ sym lb) in
@@ -140,6 +136,9 @@ cofactor_product (x ∷ a) (y ∷ b) e =
     let h : (max x y - x) + x ≡ max x y = omega arith in
     let t = cofactor_product a b (omega arith) in
     λ i. h i ∷ t i
+
+pub divides-lcm : (a b : Monomial) → IsMonomial a → IsMonomial b → Divides a (lcm a b)
+divides-lcm a b la lb = (cofactor a b, cofactor-monomial a b la lb, cofactor_product a b (la ∙ sym lb))
 
 -- a common multiple of a and b is a multiple of the lcm, by one factor
 pub common : (k : ℕ) (m n a b : List ℕ) → length m ≡ k → length n ≡ k → length a ≡ k → length b ≡ k

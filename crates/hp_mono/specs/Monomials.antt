@@ -50,6 +50,10 @@ product = with_each ◌+◌
 abbrev pub lcm : Monomial → Monomial → Monomial
 lcm = with_each max
 
+-- what the lcm of a and b has more than a
+abbrev pub cofactor : Monomial → Monomial → Monomial
+cofactor a b = with_each ◌-◌ (lcm a b) a
+
 -- some monomial times a is b
 abbrev pub Divides : Monomial → Monomial → Type 0
 Divides a b = (m : Monomial) × IsMonomial m × (product m a ≡ b)

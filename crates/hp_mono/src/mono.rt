@@ -3,7 +3,7 @@
 ghost use Rattle.std.specs.Prelude.{◌≡◌, ◌+◌, ◌^◌, ◌≤◌, ◌<◌, ◌↔◌, [], ◌∷◌, IsTrue, IfSome, IfNone, Some, nat_eq, slice_get, sum};
 ghost use Rattle.std.specs.Cmp.{partial_equiv_from_equiv};
 ghost use Rattle.std.specs.Cmp.Lexicographic.{pointwise, nat_list_eq_equiv};
-ghost use Rattle.hp_mono.specs.Monomials.{Divides, IsMonomialUpTo, degree, exponent, grevlex, lcm, max_degree, one, product, variable, vars};
+ghost use Rattle.hp_mono.specs.Monomials.{Divides, IsMonomialUpTo, cofactor, degree, exponent, grevlex, lcm, max_degree, one, product, variable, vars};
 ghost use Rattle.hp_mono.specs.Digits.{five_digits, from_digits, EachAtMost};
 
 use std::cmp::Ordering;
@@ -173,13 +173,34 @@ impl Mono {
         ensures some { IfSome result (λ q. product q by.now ≡ self.now) }
         ensures none { IfNone result (¬ (Divides by.now self.now)) }
     {
-        if !by.divides(self) {
-            return None;
+        if by.divides(self) {
+            Some(self.without(by))
+        } else {
+            None
         }
-        Some(Mono {
-            low: self.low - by.low,
-            high: self.high - by.high,
-        })
+    }
+
+    /// What the least common multiple with the other, of degree at most `MAX_DEGREE`, has more than this one.
+    pub fn cofactor(&self, other: &Mono) -> Mono
+        requires { degree (lcm self.now other.now) ≤ max_degree }
+        ensures left { IsMonomialUpTo max_degree self.now }
+        ensures right { IsMonomialUpTo max_degree other.now }
+        ensures answer { IsMonomialUpTo max_degree result }
+        ensures value { result ≡ cofactor self.now other.now }
+    {
+        self.lcm(other).without(self)
+    }
+
+    /// The monomial that times a divisor of this one is this one.
+    fn without(&self, divisor: &Mono) -> Mono
+        requires { Divides divisor.now self.now }
+        ensures answer { IsMonomialUpTo max_degree result }
+        ensures value { product result divisor.now ≡ self.now }
+    {
+        Mono {
+            low: self.low - divisor.low,
+            high: self.high - divisor.high,
+        }
     }
 
     /// The order by degree, and then by the last exponent that differs: the smaller is the greater monomial.

@@ -1,5 +1,5 @@
 -- Values at a point: of sums, negatives, products and constants.
-use Rattle.std.specs.Prelude.{◌≡◌, ℕ, zero, suc, ◌+◌, List, [], ◌∷◌, length, All, replicate, slice_index_or}
+use Rattle.std.specs.Prelude.{◌≡◌, ℕ, zero, suc, List, [], ◌∷◌, length, All, replicate, slice_index_or}
 use Rattle.std.proofs.lemmas.List.Elements.{All-nil, All-cons, All-head, All-tail}
 use mathlib.Core.Path.{refl, sym, ap, ◌∙◌}
 use native.Mathlib.Omega.{arith}
@@ -9,7 +9,7 @@ use Rattle.hp_mono.specs.Monomials as mono
 use Rattle.hp_mono.specs.Monomials.{Monomial, IsMonomial, product, vars}
 use Rattle.hp_sums.specs.FiniteSums.{HasValues}
 use Rattle.hp_sums.proofs.SumSetting.{SumSetting}
-use Rattle.hp_sums.proofs.BilinearSums.{against, against-value, weighted-bilinear}
+use Rattle.hp_sums.proofs.BilinearSums.{against, weighted-bilinear}
 use Rattle.hp_sums.proofs.WeightedSums.{
   weighted,
   weighted-value,

@@ -1,5 +1,5 @@
 -- Linear forms and their powers as polynomials: their degree, and their value at a point.
-use Rattle.std.specs.Prelude.{◌≡◌, ◌≢◌, ℕ, zero, suc, ◌+◌, ◌-◌, ◌<◌, ◌≤◌, List, [], ◌∷◌, map, zip, drop, length, All, replicate, set, slice_index_or}
+use Rattle.std.specs.Prelude.{◌≡◌, ℕ, zero, suc, ◌+◌, ◌-◌, ◌<◌, ◌≤◌, List, [], ◌∷◌, map, zip, drop, length, All, replicate, set, slice_index_or}
 use Rattle.std.proofs.lemmas.List.{length-set}
 use Rattle.std.proofs.lemmas.List.Sums.{sum_by-cons}
 use Rattle.std.proofs.lemmas.List.Elements.{All-nil, All-cons, All-head, All-tail, All-map, All-weaker}
@@ -10,17 +10,7 @@ use Rattle.hp_lists.specs.Lists.{one_to, range_with_len}
 use Rattle.hp_algebra.specs.Ring.{RingOf, IsRing, IsCommutative, dot_of, power}
 use Rattle.hp_mono.specs.Monomials.{Monomial, IsMonomial, variable, degree, vars}
 use Rattle.hp_sums.proofs.Collected.{collect-keys}
-use Rattle.hp_poly.specs.Polynomials.{
-  Poly,
-  IsPoly,
-  IsHomogeneous,
-  form_power,
-  form_terms,
-  linear_form,
-  monomial_value,
-  poly_ring,
-  poly_value,
-}
+use Rattle.hp_poly.specs.Polynomials.{IsPoly, IsHomogeneous, form_power, form_terms, linear_form, monomial_value, poly_value}
 use Rattle.hp_poly.specs.PolySetting.{poly_setting}
 use Rattle.hp_poly.specs.PolyRing.{poly_is_ring, poly_of-IsPoly}
 use Rattle.hp_poly.proofs.Evaluation.{monomial-value, value_of, value_one, value_power}

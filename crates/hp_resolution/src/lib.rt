@@ -2,7 +2,9 @@
 #![tactic(auto)]
 
 mod frame;
+mod matrix;
 mod minimal;
 
 pub use frame::Frame;
+pub use matrix::matrix_of;
 pub use minimal::MinRes;

@@ -9,39 +9,10 @@ use crate::answer::FreeAnswer;
 use crate::freeness::free_answer;
 use hp_algebra::{Field, FiniteField, List, NoMem, greatest_weight};
 use hp_arr::Arr;
-use hp_complex::{Complex, Mat};
+use hp_complex::Complex;
 use hp_module::ModVec;
-use hp_poly::Poly;
-use hp_resolution::MinRes;
+use hp_resolution::{MinRes, matrix_of};
 use std::alloc::Global;
-
-/// The entries of a vector as a row.
-fn row<F: Field>(alloc: Global, v: &ModVec<F>) -> Result<List<Poly<F>>, NoMem>
-    ensures { IfOk result (λ r. r ≡ v.now) }
-{
-    let entries = v.entries();
-    let mut copies = Vec::new(alloc);
-    for k in 0..entries.len() {
-        copies.push(entries[k].copy(alloc)?)?;
-    }
-    Ok(List::of(copies))
-}
-
-/// The matrix of so many columns with the vectors as its rows.
-fn matrix<F: Field>(
-    alloc: Global,
-    cols: usize,
-    vectors: &[ModVec<F>],
-) -> Result<Mat<Poly<F>>, NoMem>
-    requires { All (λ v. length v ≡ cols) vectors.now }
-    ensures { IfOk result (λ m. m ≡ record { cols = cols; rows = vectors.now }) }
-{
-    let mut rows = Vec::new(alloc);
-    for k in 0..vectors.len() {
-        rows.push(row(alloc, &vectors[k])?)?;
-    }
-    Ok(Mat::new(cols, rows))
-}
 
 /// For each vector the greatest degree of its entries.
 fn vector_degrees<F: Field>(alloc: Global, vectors: &[ModVec<F>]) -> Result<Vec<u32>, NoMem>
@@ -70,7 +41,7 @@ pub fn short_resolution<K: FiniteField>(
     ensures minimal { IfOk result (λ r. IsMinimalResolution K.ring r) }
 {
     let mut maps = Vec::new(alloc);
-    maps.push(matrix(alloc, arr.dim() as usize, generators)?)?;
+    maps.push(matrix_of(alloc, arr.dim() as usize, generators)?)?;
     let mut degrees = Vec::new(alloc);
     degrees.push(List::of(vector_degrees(alloc, generators)?))?;
     Ok(MinRes::new(Complex::new(maps), degrees))

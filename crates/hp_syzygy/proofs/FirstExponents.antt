@@ -4,8 +4,7 @@ use Rattle.std.proofs.lemmas.Bool.{eq-eqb, eqb-true}
 use Rattle.std.proofs.lemmas.List.{get_or-drop, get_or_default, length-drop}
 use mathlib.Core.Path.{refl, sym, ap, ◌∙◌}
 use native.Mathlib.Omega.{arith}
-use Rattle.hp_mono.specs.Monomials.{Monomial, IsMonomial, Divides, lcm, product}
-use Rattle.hp_mono.proofs.MonomialLaws.{cofactor, cofactor-monomial, cofactor_product}
+use Rattle.hp_mono.specs.Monomials.{Monomial, IsMonomial, product, cofactor}
 use Rattle.hp_syzygy.specs.VariableTests.{in_first}
 use Rattle.hp_syzygy.proofs.LeadExponents.{cofactor-zero, exponent_of}
 
@@ -80,7 +79,3 @@ pub first-cofactor : (l : ℕ) (a b : Monomial) → IsMonomial a → IsMonomial 
     → in_first l (cofactor a b) ≡ true
 first-cofactor l a b ia ib e f =
     first-all l (cofactor a b) (λ j h k. cofactor-zero j a b (ia ∙ sym ib) (first-each l a e j h) (first-each l b f j h))
-
--- each monomial divides the lcm
-pub divides-lcm : (a b : Monomial) → IsMonomial a → IsMonomial b → Divides a (lcm a b)
-divides-lcm a b ia ib = (cofactor a b, cofactor-monomial a b ia ib, cofactor_product a b (ia ∙ sym ib))

@@ -3,8 +3,8 @@ use Rattle.std.specs.Prelude.{◌≡◌, ℕ, zero, suc, ◌+◌, ◌-◌, ◌*�
 use Rattle.std.proofs.lemmas.List.Sums.{sum_by-cons}
 use mathlib.Core.Path.{refl}
 use native.Mathlib.Omega.{arith}
-use Rattle.hp_mono.specs.Monomials.{Monomial, product, degree, lcm}
-use Rattle.hp_mono.proofs.MonomialLaws.{cofactor, cofactor_exponent}
+use Rattle.hp_mono.specs.Monomials.{Monomial, product, degree, lcm, cofactor}
+use Rattle.hp_mono.proofs.MonomialLaws.{cofactor_exponent}
 
 abbrev pub exponent_of : Monomial → ℕ → ℕ
 exponent_of m p = slice_index_or m p 0

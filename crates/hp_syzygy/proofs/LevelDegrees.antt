@@ -1,17 +1,15 @@
 -- The degrees of a level: its members have those of their leads, and those of pairs are degrees of monomials.
 use Rattle.std.specs.Prelude.{◌≡◌, ℕ, suc, ◌+◌, ◌<◌, ◌≤◌, max, [], ◌∷◌, length, All, slice_index_or}
-use Rattle.std.proofs.lemmas.List.Elements.{All-nil, All-cons, All-weaker}
+use Rattle.std.proofs.lemmas.List.Elements.{All-weaker}
 use mathlib.Core.Path.{sym, ap, ◌∙◌, subst}
 use native.Mathlib.Omega.{arith}
 use Rattle.hp_algebra.specs.Ring.{RingOf, IsRing, IsCommutative, greatest_weight_of}
 use Rattle.hp_mono.specs.declared.term.Term.{Term}
-use Rattle.hp_mono.specs.Monomials.{Monomial, IsMonomial, degree, lcm, max_degree, product, vars}
+use Rattle.hp_mono.specs.Monomials.{Monomial, IsMonomial, degree, lcm, max_degree, product, vars, cofactor}
 use Rattle.hp_mono.specs.TermOrders.{IsTermWithin, times}
-use Rattle.hp_mono.proofs.MonomialLaws.{cofactor, cofactor-monomial, degree_product, length-with_each}
+use Rattle.hp_mono.proofs.MonomialLaws.{cofactor-monomial, degree_product, length-with_each}
 use Rattle.hp_mono.proofs.TermLaws.{times-within}
-use Rattle.hp_sums.proofs.Collected.{collect-keys}
-use Rattle.hp_poly.specs.Polynomials.{poly_degree, poly_ring, term_poly}
-use Rattle.hp_poly.specs.PolySetting.{poly_setting}
+use Rattle.hp_poly.specs.Polynomials.{poly_degree, poly_ring}
 use Rattle.hp_poly.specs.Degrees.{degree_most}
 use Rattle.hp_module.specs.Vectors.{Vector}
 use Rattle.hp_module.specs.FreeModules.{degree_of, terms}
@@ -36,13 +34,6 @@ module _ {F : Type 0} {ring : RingOf F} (laws : IsRing ring) (comm : IsCommutati
     where
       both : (a b : ℕ) → a ≤ d → b ≤ d → max a b ≤ d
       both a b p q = omega arith
-
-  pub term-weight : (c : F) (m : Monomial) → poly_degree ring (term_poly ring c m) ≤ degree m
-  term-weight c m =
-      let own : degree m ≤ degree m = omega arith in
-      degree_most laws comm (degree m) (term_poly ring c m)
-      (collect-keys (poly_setting laws comm) (λ u. degree u ≤ degree m) ((m, c) ∷ [])
-      (All-cons (λ (t : Monomial × F). degree t.0 ≤ degree m) (m, c) [] own (All-nil (λ (t : Monomial × F). degree t.0 ≤ degree m))))
 
 module _ {F : Type 0} {ring : RingOf F} {inverse : F → F} {v : Level F} (is : IsLevel ring inverse v) where
   abbrev laws : IsRing ring

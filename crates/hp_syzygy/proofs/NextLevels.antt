@@ -11,9 +11,9 @@ use native.Mathlib.Omega.{arith}
 use Rattle.hp_algebra.specs.Ring.{RingOf, IsRing, IsCommutative}
 use Rattle.hp_complex.specs.Complexes.{IsExactAt}
 use Rattle.hp_mono.specs.declared.term.Term.{Term}
-use Rattle.hp_mono.specs.Monomials.{IsMonomial, degree, product, one, vars}
+use Rattle.hp_mono.specs.Monomials.{IsMonomial, degree, product, one, vars, cofactor}
 use Rattle.hp_mono.specs.TermOrders.{IsTermWithin, TermDivides}
-use Rattle.hp_mono.proofs.MonomialLaws.{cofactor, cofactor-monomial, cofactor_exponent, product_assoc}
+use Rattle.hp_mono.proofs.MonomialLaws.{cofactor-monomial, cofactor_exponent, product_assoc}
 use Rattle.hp_mono.proofs.TermLaws.{times-within}
 use Rattle.hp_poly.specs.Polynomials.{IsPoly, IsInVariables, poly_ring}
 use Rattle.hp_module.specs.Vectors.{Vector, IsVector, IsGenerated, combination, zero_vector}

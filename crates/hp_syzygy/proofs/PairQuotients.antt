@@ -9,9 +9,8 @@ use native.Mathlib.Omega.{arith}
 use Rattle.hp_algebra.specs.Ring.{RingOf, IsRing, IsCommutative}
 use Rattle.hp_algebra.proofs.Rings.{mul_zero}
 use Rattle.hp_mono.specs.declared.term.Term.{Term}
-use Rattle.hp_mono.specs.Monomials.{max_degree}
+use Rattle.hp_mono.specs.Monomials.{cofactor, max_degree}
 use Rattle.hp_mono.specs.TermOrders.{IsTermWithin}
-use Rattle.hp_mono.proofs.MonomialLaws.{cofactor}
 use Rattle.hp_sums.specs.FiniteSums.{total}
 use Rattle.hp_sums.proofs.WeightedSums.{scaled, scaled-values}
 use Rattle.hp_sums.proofs.EqualTotals.{total-scaled}

@@ -5,9 +5,8 @@ use Rattle.hp_algebra.specs.Ring.{RingOf}
 use Rattle.hp_linear.specs.Matrices.{Matrix}
 use Rattle.hp_complex.specs.Complexes.{IsExactAt}
 use Rattle.hp_mono.specs.declared.term.Term.{Term}
-use Rattle.hp_mono.specs.Monomials.{degree}
+use Rattle.hp_mono.specs.Monomials.{cofactor, degree}
 use Rattle.hp_mono.specs.TermOrders.{TermDivides}
-use Rattle.hp_mono.proofs.MonomialLaws.{cofactor}
 use Rattle.hp_poly.specs.Polynomials.{Poly, poly_ring}
 use Rattle.hp_module.specs.Vectors.{Vector, combination, zero_vector}
 use Rattle.hp_module.specs.FreeModules.{FreeModule, IsFreeModule}

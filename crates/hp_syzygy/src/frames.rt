@@ -1,6 +1,6 @@
 //! Exact frames.
 
-ghost use Rattle.std.specs.Prelude.{◌≡◌, ◌≤◌, ◌+◌, ℕ, All, IfOk, length};
+ghost use Rattle.std.specs.Prelude.{◌≡◌, ◌≤◌, ◌+◌, All, IfOk, length};
 ghost use Rattle.hp_mono.specs.declared.term.Term.{Term as TermOf};
 ghost use Rattle.hp_mono.specs.Monomials.{degree, vars};
 ghost use Rattle.hp_module.specs.Derivations.{IsVectorInVariables};
@@ -14,9 +14,9 @@ use crate::level::Level;
 use crate::next::{degrees_of, next_level};
 use hp_algebra::{Field, List, NoMem};
 use hp_complex::{Complex, Mat};
-use hp_module::{Basis, ModVec};
+use hp_module::Basis;
 use hp_poly::Poly;
-use hp_resolution::Frame;
+use hp_resolution::{Frame, matrix_of};
 use std::alloc::Global;
 
 /// The greatest degree of a lead of a basis of which a frame is made.
@@ -46,14 +46,14 @@ pub fn frame<F: Field>(alloc: Global, basis: &Basis<F>) -> Result<Frame<F>, NoMe
     let mut level = first_level(alloc, basis)?;
     let mut maps = Vec::new(alloc);
     let mut degrees = Vec::new(alloc);
-    maps.push(matrix_of(alloc, &level)?)?;
+    maps.push(matrix(alloc, &level)?)?;
     degrees.push(List::of(degrees_of(alloc, &level)?))?;
     for _ in 0..basis.width() + 1 {
         let next = next_level(alloc, &level)?;
         if next.members.is_empty() {
             return Ok(Frame::new(Complex::new(maps), degrees));
         }
-        maps.push(matrix_of(alloc, &next)?)?;
+        maps.push(matrix(alloc, &next)?)?;
         degrees.push(List::of(degrees_of(alloc, &next)?))?;
         level = next;
     }
@@ -63,27 +63,9 @@ pub fn frame<F: Field>(alloc: Global, basis: &Basis<F>) -> Result<Frame<F>, NoMe
 /// The matrix whose rows are the members of a level.
 ///
 /// Errors: `NoMem` where memory is out.
-fn matrix_of<F: Field>(alloc: Global, level: &Level<F>) -> Result<Mat<Poly<F>>, NoMem>
+fn matrix<F: Field>(alloc: Global, level: &Level<F>) -> Result<Mat<Poly<F>>, NoMem>
     requires level { IsLevel F.ring F.inverse level.now }
     ensures { IfOk result (λ r. r ≡ level_matrix level.now) }
 {
-    let mut rows = Vec::new(alloc);
-    for k in 0..level.members.len() {
-        rows.push(row_of(alloc, &level.members[k])?)?;
-    }
-    Ok(Mat::new(level.order.tops().len(), rows))
-}
-
-/// The entries of a vector as a row.
-///
-/// Errors: `NoMem` where memory is out.
-fn row_of<F: Field>(alloc: Global, v: &ModVec<F>) -> Result<List<Poly<F>>, NoMem>
-    ensures { IfOk result (λ r. r ≡ v.now) }
-{
-    let entries = v.entries();
-    let mut row = Vec::new(alloc);
-    for k in 0..entries.len() {
-        row.push(entries[k].copy(alloc)?)?;
-    }
-    Ok(List::of(row))
+    matrix_of(alloc, level.order.tops().len(), level.members.as_slice())
 }

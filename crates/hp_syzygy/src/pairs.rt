@@ -6,7 +6,6 @@ ghost use Rattle.hp_module.specs.Leads.{no_term};
 ghost use Rattle.hp_syzygy.specs.DividingTests.{keep_next, some_divides, term_divides};
 ghost use Rattle.hp_syzygy.specs.FrameLevels.{ArePairs, ArePairsAt};
 
-use crate::relation::cofactor_of;
 use hp_algebra::NoMem;
 use hp_mono::Term;
 use std::alloc::Global;
@@ -88,7 +87,7 @@ fn consider(
         return Ok(());
     }
     let lead = Term {
-        mono: cofactor_of(&leads[i].mono, &leads[j].mono),
+        mono: leads[i].mono.cofactor(&leads[j].mono),
         comp: i + 1,
     };
     keep(alloc, kept, lead, j)

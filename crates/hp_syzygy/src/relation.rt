@@ -1,12 +1,8 @@
 //! The relation of a pair of members of a level.
 
-ghost use Rattle.std.specs.Prelude.{◌≡◌, ◌≤◌, ◌<◌, ◌+◌, ◌++◌, ◌∷◌, [], ℕ, suc, IfOk, length, map};
-ghost use Rattle.hp_mono.specs.declared.term.Term.{Term as TermOf};
-ghost use Rattle.hp_mono.specs.Monomials.{degree, lcm, max_degree};
-ghost use Rattle.hp_mono.proofs.MonomialLaws.{cofactor};
-ghost use Rattle.hp_algebra.specs.Ring.{greatest_weight_of};
-ghost use Rattle.hp_poly.specs.Polynomials.{poly_neg, poly_ring, term_poly};
-ghost use Rattle.hp_module.specs.Vectors.{vector_scale};
+ghost use Rattle.std.specs.Prelude.{◌≡◌, ◌<◌, ◌+◌, ◌++◌, ◌∷◌, [], ℕ, suc, IfOk, length, map};
+ghost use Rattle.hp_mono.specs.Monomials.{cofactor, degree};
+ghost use Rattle.hp_poly.specs.Polynomials.{poly_neg};
 ghost use Rattle.hp_module.specs.CriticalPairs.{pair_vector};
 ghost use Rattle.hp_module.specs.FreeModules.{plus_term};
 ghost use Rattle.hp_module.specs.FallingTerms.{AreDivisors, with_leads as divisor_leads};
@@ -35,17 +31,6 @@ pub(crate) fn divisors_of<F: Field>(alloc: Global, level: &Level<F>) -> Result<D
         divisors.push(alloc, &level.order, &level.members[k])?;
     }
     Ok(divisors)
-}
-
-/// What the lcm of two monomials has more than the first.
-pub(crate) fn cofactor_of(a: &Mono, b: &Mono) -> Mono
-    requires { degree (lcm a.now b.now) ≤ max_degree }
-    ensures { result ≡ cofactor a.now b.now }
-{
-    match a.lcm(b).quotient(a) {
-        Some(quotient) => quotient,
-        None => Mono::one(),
-    }
 }
 
 /// Whether only the variables x_1, .., x_l occur.
@@ -123,20 +108,6 @@ fn add_term<F: Field>(
     Ok(())
 }
 
-/// The vector times c m.
-///
-/// Errors: `NoMem` where memory is out.
-fn multiple_of<F: Field>(alloc: Global, c: F, m: Mono, v: &ModVec<F>) -> Result<ModVec<F>, NoMem>
-    requires { degree m + greatest_weight_of (poly_ring F.ring) v.now ≤ max_degree }
-    ensures value { IfOk result (λ r. r ≡ vector_scale F.ring (term_poly F.ring c m) v.now) }
-    ensures width { IfOk result (λ r. length r ≡ length v.now) }
-{
-    let mut terms = Vec::new(alloc);
-    terms.push((m, c))?;
-    let by = Poly::from_terms(alloc, terms)?;
-    v.m_scale(alloc, &by)
-}
-
 /// The vector of a pair: the difference of the two multiples of members that have the lcm of the leads as lead.
 ///
 /// Errors: `NoMem` where memory is out.
@@ -154,8 +125,8 @@ fn difference_of<F: Field>(
     requires down { down ≡ cofactor (level_lead level.now earlier).mono (level_lead level.now later).mono }
     ensures { IfOk result (λ r. r ≡ pair_vector F.ring (with_leads level.now) earlier later F.ring.one F.ring.one) }
 {
-    let left = multiple_of(alloc, F::unit(), up, &level.members[later])?;
-    let right = multiple_of(alloc, F::unit().negate(), down, &level.members[earlier])?;
+    let left = level.members[later].times_term(alloc, F::unit(), up)?;
+    let right = level.members[earlier].times_term(alloc, F::unit().negate(), down)?;
     left.m_add(alloc, &right)
 }
 
@@ -178,7 +149,7 @@ pub(crate) fn relation_of<F: Field>(
 {
     let later = lead.comp - 1;
     let up = lead.mono;
-    let down = cofactor_of(&level.leads[earlier].mono, &level.leads[later].mono);
+    let down = level.leads[earlier].mono.cofactor(&level.leads[later].mono);
     let difference = difference_of(alloc, level, later, up, earlier, down)?;
     let divided = divisors.divide(alloc, &level.order, &level.grading, &difference)?;
     let mut entries = negated(alloc, level.order.first_width(), divided.0.as_slice())?;

@@ -16,7 +16,7 @@ loop-init g c =
     let some : 1 ≤ length v.members = omega (arith, ap length e.members, c.requires.some_member) in
     let first = frame-first v basis.width e.level e.first_width e.width e.left e.degrees some in
     let maps : c.push.new.self.items ≡ level_matrix v ∷ [] =
-    c.in_ok-push.ensures.items ∙ (λ k. c.new-maps.ensures.items k ++ c.in_ok-matrix_of.ensures k ∷ []) in
+    c.in_ok-push.ensures.items ∙ (λ k. c.new-maps.ensures.items k ++ c.in_ok-matrix.ensures k ∷ []) in
     let degrees : c.push-2.new.self.items ≡ member_degrees v ∷ [] =
     c.in_ok-push-2.ensures.items ∙ (λ k. c.new-degrees.ensures.items k ++ (c.of.ensures ∙ c.in_ok-degrees_of.ensures) k ∷ []) in
     record {
@@ -36,8 +36,8 @@ new-requires-then-is_empty g c =
     λ k. record { maps = sym c.new.ensures.value k; degrees = c.loop.degrees.items } in
     subst (IsFrame ring) same (frame-end c.loop.invariant.frame c.in_ok-next.ensures none)
 
-pub matrix_of-requires-in-loop : goal.matrix_of-requires-in-loop
-matrix_of-requires-in-loop g c =
+pub matrix-requires-in-loop : goal.matrix-requires-in-loop
+matrix-requires-in-loop g c =
     let w = c.in_ok-next.next in
     let members = ap (λ v. v.members) c.next.view_is in
     let some = eqb-false _ 0 (sym c.is_empty.ensures ∙ c.if-is_empty.false) in
@@ -63,7 +63,7 @@ loop-preserved g c =
     let one : 1 ≤ length w.members = omega (arith, some, c.next.inside.members.ok.0, ap length members) in
     let more = frame-more c.loop.invariant.frame c.in_ok-next.ensures one in
     let maps : c.push-in-loop.new.self.items ≡ c.loop.maps.items ++ level_matrix w ∷ [] =
-    c.in_ok-push-3.ensures.items ∙ (λ k. c.loop.maps.items ++ c.in_ok-matrix_of-2.ensures k ∷ []) in
+    c.in_ok-push-3.ensures.items ∙ (λ k. c.loop.maps.items ++ c.in_ok-matrix-2.ensures k ∷ []) in
     let degrees : c.push-in-loop-2.new.self.items ≡ c.loop.degrees.items ++ member_degrees w ∷ [] =
     c.in_ok-push-4.ensures.items ∙ (λ k. c.loop.degrees.items ++ (c.of-in-loop.ensures ∙ c.in_ok-degrees_of-2.ensures) k ∷ []) in
     record {

@@ -6,8 +6,8 @@ use Rattle.hp_poly.specs.Polynomials.{poly_ring}
 use Rattle.hp_syzygy.proofs.LevelDegrees.{member-weight, pair-most}
 use Rattle.hp_syzygy.proofs.relation.difference_of.Goals as goal
 
-pub multiple_of-requires : goal.multiple_of-requires
-multiple_of-requires g c =
+pub times_term-requires : goal.times_term-requires
+times_term-requires g c =
     let lv = c.args.level.now in
     let is = c.requires.level in
     let pair = c.requires.pair.1 in
@@ -24,8 +24,8 @@ multiple_of-requires g c =
     let d = ap degree c.requires.up in
     omega (arith, w, p, e, d)
 
-pub multiple_of-requires-2 : goal.multiple_of-requires-2
-multiple_of-requires-2 g c =
+pub times_term-requires-2 : goal.times_term-requires-2
+times_term-requires-2 g c =
     let lv = c.args.level.now in
     let is = c.requires.level in
     let pair = c.requires.pair.1 in

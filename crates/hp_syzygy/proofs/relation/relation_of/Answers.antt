@@ -1,7 +1,6 @@
 use Rattle.std.proofs.Common.{◌≡◌, ◌≤◌, ◌<◌, ◌-◌, ◌∙◌, suc, get_or, length, ap, sym, subst, arith}
 use Rattle.std.proofs.lemmas.List.{get_or_default}
-use Rattle.hp_mono.specs.Monomials.{degree, lcm, max_degree}
-use Rattle.hp_mono.proofs.MonomialLaws.{cofactor}
+use Rattle.hp_mono.specs.Monomials.{cofactor, degree, lcm, max_degree}
 use Rattle.hp_module.specs.CriticalPairs.{pair_vector}
 use Rattle.hp_module.specs.Divisions.{IsDivided}
 use Rattle.hp_module.specs.FallingTerms.{with_leads as divisor_leads}
@@ -13,8 +12,8 @@ use Rattle.hp_syzygy.proofs.LevelDegrees.{lcm-most}
 use Rattle.hp_syzygy.proofs.PairQuotients.{difference-degree, difference-vector, relation_made}
 use Rattle.hp_syzygy.proofs.relation.relation_of.Goals as goal
 
-pub cofactor_of-down-requires : goal.cofactor_of-down-requires
-cofactor_of-down-requires g c =
+pub cofactor-down-requires : goal.cofactor-down-requires
+cofactor-down-requires g c =
     let lv = c.args.level.now in
     let is = c.requires.level in
     let pair = c.requires.pair.2 in
@@ -79,8 +78,8 @@ returns g c =
     let width : c.first_width.result ≡ lv.chain.width = c.first_width.ensures.value ∙ ap (λ v. v.chain.width) c.level.view_is in
     let negs : c.in_ok-entries.entries.items ≡ negated_firsts ring lv.chain.width q =
     c.in_ok-entries.ensures ∙ (λ k. negated_firsts ring (width k) (c.as_slice.ensures.value k)) in
-    let down : record { mono = c.cofactor_of-down.result; comp = suc j } ≡ pair_lead lv.leads j i =
-    (λ k. record { mono = (c.cofactor_of-down.ensures ∙ (λ m. cofactor (ex m).mono (ey m).mono)) k; comp = suc j }) in
+    let down : record { mono = c.cofactor-down.result; comp = suc j } ≡ pair_lead lv.leads j i =
+    (λ k. record { mono = (c.cofactor-down.ensures.value ∙ (λ m. cofactor (ex m).mono (ey m).mono)) k; comp = suc j }) in
     let up : record { mono = lead.mono; comp = suc (lead.comp - 1) } ≡ pair_lead lv.leads i j =
     (λ k. record { mono = (c.requires.pair.3 k).mono; comp = suc (place k) }) in
     let minus = c.negate.ensures.value ∙ ap ring.neg c.unit.ensures.value in

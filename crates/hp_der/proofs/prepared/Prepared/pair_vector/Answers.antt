@@ -13,14 +13,14 @@ cofactor-down-requires g c =
     let e = ap (λ (p : Prepared g.row.F.Denot). p.leads) c.self.view_is in
     read-lcm c.requires.prepared c.args.j c.args.i c.requires.first c.requires.second e c.index-3.ensures c.index-4.ensures
 
-pub scaled-requires : goal.scaled-requires
-scaled-requires g c =
+pub times_term-requires : goal.times_term-requires
+times_term-requires g c =
     let e = ap (λ (p : Prepared g.row.F.Denot). p.leads) c.self.view_is in
     read-scaled c.requires.prepared c.args.i c.args.j c.requires.second c.requires.first e c.index.ensures c.index-2.ensures
     c.members-members.ensures.value c.index-members-i.is c.cofactor-up.ensures.value
 
-pub scaled-requires-2 : goal.scaled-requires-2
-scaled-requires-2 g c =
+pub times_term-requires-2 : goal.times_term-requires-2
+times_term-requires-2 g c =
     let e = ap (λ (p : Prepared g.row.F.Denot). p.leads) c.self.view_is in
     read-scaled c.requires.prepared c.args.j c.args.i c.requires.first c.requires.second e c.index-3.ensures c.index-4.ensures
     c.members-members.ensures.value c.index-members-j.is c.cofactor-down.ensures.value

@@ -8,15 +8,15 @@ cofactor-up-requires g c =
     let e = c.leads-leads.ensures ∙ ap (λ (s : State g.row.F.Denot). s.queue.leads) c.self.view_is in
     up-lcm c.requires.run.2.0 c.requires.degree c.requires.pair c.requires.lcm e c.index-leads-later.result c.index-leads-earlier.result
 
-pub scaled-requires : goal.scaled-requires
-scaled-requires g c =
+pub times_term-requires : goal.times_term-requires
+times_term-requires g c =
     let e = c.leads-leads.ensures ∙ ap (λ (s : State g.row.F.Denot). s.queue.leads) c.self.view_is in
     let f = ap (λ (s : State g.row.F.Denot). s.members) c.self.view_is in
     up-fits c.requires.run.2.0 c.requires.degree c.requires.pair c.requires.lcm e c.index-leads-later.result c.index-leads-earlier.result f
     c.cofactor-up.ensures.value c.index.ensures
 
-pub scaled-requires-2 : goal.scaled-requires-2
-scaled-requires-2 g c =
+pub times_term-requires-2 : goal.times_term-requires-2
+times_term-requires-2 g c =
     let e = c.leads-leads.ensures ∙ ap (λ (s : State g.row.F.Denot). s.queue.leads) c.self.view_is in
     let f = ap (λ (s : State g.row.F.Denot). s.members) c.self.view_is in
     down-fits c.requires.run.2.0 c.requires.degree c.requires.pair c.requires.lcm e c.index-leads-later-2.result c.index-leads-earlier-2.result f
