@@ -59,14 +59,14 @@ module _ {K : Type 0} {ring : RingOf K} (laws : IsRing ring) (commutes : IsCommu
 
   -- ---- vectors with one entry
 
-  component-all : (Q : Poly K → Type 0) (w : ℕ) (p : Poly K) (c : ℕ) → Q p → Q [] → All Q (in_component w p c)
+  pub component-all : (Q : Poly K → Type 0) (w : ℕ) (p : Poly K) (c : ℕ) → Q p → Q [] → All Q (in_component w p c)
   component-all Q w p c hp hz = All-map Q (λ k. cond (k == c) p []) (one_to w) (λ i d m. pick (slice_index_or (one_to w) i d == c))
     where
       pick : (b : Bool) → Q (cond b p [])
       pick true = hp
       pick false = hz
 
-  component-length : (w : ℕ) (p : Poly K) (c : ℕ) → length (in_component w p c) ≡ w
+  pub component-length : (w : ℕ) (p : Poly K) (c : ℕ) → length (in_component w p c) ≡ w
   component-length w p c = length-map-range_with_len (λ k. cond (k == c) p []) 1 w
 
   component-at : (w : ℕ) (p : Poly K) (c j : ℕ) → j < w → slice_index_or (in_component w p c) j [] ≡ cond ((j + 1) == c) p []
@@ -103,7 +103,7 @@ module _ {K : Type 0} {ring : RingOf K} (laws : IsRing ring) (commutes : IsCommu
   constant-poly : (c : K) → ring.IsValue c → IsPoly ring (constant ring c)
   constant-poly c v = term_poly-IsPoly laws commutes c Rattle.hp_mono.specs.Monomials.one v refl
 
-  column-all : (Q : Poly K → Type 0) (j : ℕ) → j < l → ((c : K) → ring.IsValue c → Q (constant ring c)) → Q [] → All Q (col (j + 1))
+  pub column-all : (Q : Poly K → Type 0) (j : ℕ) → j < l → ((c : K) → ring.IsValue c → Q (constant ring c)) → Q [] → All Q (col (j + 1))
   column-all Q j m f z =
       let back : (j + 1) - 1 ≡ j = omega arith in
       All-append Q _ _
@@ -111,12 +111,12 @@ module _ {K : Type 0} {ring : RingOf K} (laws : IsRing ring) (commutes : IsCommu
       (All-weaker (IsRow ring l) (λ a. Q (constant ring (entry ring a ((j + 1) - 1)))) (λ a r. f _ (subst (λ k. ring.IsValue (entry ring a k)) (sym back) (entry-value laws l a j m r))) arr.forms is.rows))
       (component-all Q l (constant ring ring.one) (j + 1) (f ring.one laws.one_value) z)
 
-  column-length : (j : ℕ) → length (col j) ≡ width
+  pub column-length : (j : ℕ) → length (col j) ≡ width
   column-length j =
       length-append (map (λ a. constant ring (entry ring a (j - 1))) arr.forms) (in_component l (constant ring ring.one) j)
       ∙ (λ i. length-map arr.forms (λ a. constant ring (entry ring a (j - 1))) i + component-length l (constant ring ring.one) j i)
 
-  all-numbers : (R : ℕ → Type 0) (w : ℕ) → ((j : ℕ) → j < w → R (j + 1)) → All R (one_to w)
+  pub all-numbers : (R : ℕ → Type 0) (w : ℕ) → ((j : ℕ) → j < w → R (j + 1)) → All R (one_to w)
   all-numbers R w f = Rattle.std.proofs.lemmas.List.Elements.All-from_get_or R (one_to w) 0 (λ j m.
       let k : j < w = omega (arith, m, Rattle.std.proofs.lemmas.List.FromFn.length-range_with_len 1 w) in
       let e : 1 + j ≡ j + 1 = omega arith in

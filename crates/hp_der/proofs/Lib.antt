@@ -1,7 +1,16 @@
+pub mod BlockBases
 pub mod BlockSteps
+pub mod CarriedAnswers
+pub mod CarriedGenerators
+pub mod CarriedMaps
+pub mod CoordinateSteps
+pub mod CoveringPairs
 pub mod DegreeRanges
 pub mod DerivationBases
 pub mod Eliminations
+pub mod EqualStops
+pub mod EssentialBases
+pub mod EssentialGenerators
 pub mod ExtendedGenerators
 pub mod ExtendedModules
 pub mod FirstForms

@@ -1,9 +1,9 @@
 -- Critical pairs of a prepared basis: their degrees, and that their vectors can be divided.
-use Rattle.std.specs.Prelude.{◌≡◌, ℕ, ◌+◌, ◌-◌, ◌<◌, ◌≤◌, max, List, [], ◌∷◌, length, slice_index_or}
+use Rattle.std.specs.Prelude.{◌≡◌, ℕ, ◌+◌, ◌-◌, ◌<◌, ◌≤◌, max, List, [], ◌∷◌, length, All, slice_index_or}
 use Rattle.std.proofs.lemmas.Bool.{cases_lt}
 use Rattle.std.proofs.lemmas.List.{get_or_default}
 use Rattle.std.proofs.lemmas.List.Sums.{sum_by-cons}
-use Rattle.std.proofs.lemmas.List.Elements.{All-head, All-tail, All-weaker}
+use Rattle.std.proofs.lemmas.List.Elements.{All-from_get_or, All-head, All-tail, All-weaker}
 use mathlib.Core.Logic.{inl, inr}
 use mathlib.Core.Path.{sym, ap, ◌∙◌, subst}
 use native.Mathlib.Omega.{arith}
@@ -161,6 +161,11 @@ module _ {F : Type 0} {ring : RingOf F} {inverse : F → F} {b : Basis F} {p : P
       → x ≡ lead_at (led_by b p.leads) i
   lead-is {us} {x} i l e h =
       h ∙ ap (λ (ts : List Term). slice_index_or ts i x) e ∙ get_or_default p.leads i x no_term (omega (arith, l, is.led.same_length))
+
+  pub read-degrees : {us : List Term} → us ≡ p.leads → All (λ t. degree t.mono ≤ most_degree) us
+  read-degrees {us} e =
+      let P : Term → Type 0 = λ t. degree t.mono ≤ most_degree in
+      subst (All P) (sym e) (All-from_get_or P p.leads no_term (λ i l. lead-degree i (omega (arith, l, is.led.same_length))))
 
   pub read-lcm : {us : List Term} {x y : Term} (i j : ℕ) → i < length b.members → j < length b.members → us ≡ p.leads
       → x ≡ slice_index_or us i x → y ≡ slice_index_or us j y → degree (lcm x.mono y.mono) ≤ max_degree

@@ -1,2 +1,5 @@
 pub mod BasisSettings
+pub mod CarriedBases
+pub mod CoveringPairs
 pub mod DerivationModules
+pub mod EssentialGenerators

@@ -1,4 +1,4 @@
-//! The generators of the larger module.
+//! The generators of the larger module in essential coordinates.
 
 ghost use Rattle.std.specs.Prelude.{◌≡◌, ◌≤◌, ◌-◌, ◌++◌, ◌==◌, if◌then◌else◌, [], ℕ, All, IfOk, length, map};
 ghost use Rattle.hp_arr.specs.Arrangement.{IsArrangement};
@@ -6,8 +6,10 @@ ghost use Rattle.hp_poly.specs.Polynomials.{constant, form_power as form_power_o
 ghost use Rattle.hp_mono.specs.Monomials.{vars};
 ghost use Rattle.hp_algebra.specs.Rows.{entry};
 ghost use Rattle.hp_lists.specs.Lists.{one_to};
-ghost use Rattle.hp_der.specs.DerivationModules.{column_generator as column_generator_of, extended_generators as extended_generators_of, in_component, most_multiplicity, power_generator as power_generator_of};
+ghost use Rattle.hp_der.specs.DerivationModules.{column_generator as column_generator_of, in_component, most_multiplicity, power_generator as power_generator_of};
+ghost use Rattle.hp_der.specs.EssentialGenerators.{essential_arrangement, essential_generators as essential_generators_of};
 
+use crate::coordinates::essential_form;
 use hp_algebra::{Field, FiniteField, NoMem, Ring};
 use hp_arr::Arr;
 use hp_module::ModVec;
@@ -98,21 +100,23 @@ fn column_generator<K: FiniteField>(
     Ok(ModVec::new(entries))
 }
 
-/// The power of form i in component i.
+/// The power of form i without the variables that have no pivot, in component i.
 fn power_generator<K: FiniteField>(
     alloc: Global,
     arr: &Arr<K>,
     m: &[u32],
+    pivots: &[usize],
     i: u32,
 ) -> Result<ModVec<K>, NoMem>
     requires low { 1 ≤ i }
     requires high { i ≤ length arr.now.forms }
     requires each { length m.now ≡ length arr.now.forms }
     requires most { All (λ k. k ≤ most_multiplicity) m.now }
-    ensures { IfOk result (λ v. v ≡ power_generator_of K.ring arr.now m.now i) }
+    ensures { IfOk result (λ v. v ≡ power_generator_of K.ring (essential_arrangement K.ring arr.now m.now pivots.now) m.now i) }
 {
     let width = arr.len() as usize + arr.dim() as usize;
-    let power = form_power(alloc, arr.form(i), m[i as usize - 1])?;
+    let form = essential_form(alloc, arr.form(i), pivots)?;
+    let power = form_power(alloc, form.as_slice(), m[i as usize - 1])?;
     let entries = with_component(alloc, Vec::new(alloc), width, &power, i as usize)?;
     Ok(ModVec::new(entries))
 }
@@ -132,23 +136,24 @@ fn column_generators<K: FiniteField>(
     Ok(gens)
 }
 
-/// The generators of the larger module.
+/// The generators of the larger module, the forms without the variables that have no pivot.
 ///
 /// Errors: `NoMem` where memory is out.
-pub(crate) fn extended_generators<K: FiniteField>(
+pub(crate) fn essential_generators<K: FiniteField>(
     alloc: Global,
     arr: &Arr<K>,
     m: &[u32],
+    pivots: &[usize],
 ) -> Result<Vec<ModVec<K>>, NoMem>
     requires each { length m.now ≡ length arr.now.forms }
     requires most { All (λ k. k ≤ most_multiplicity) m.now }
     ensures lawful { IsArrangement K.ring K.numbers arr.now }
-    ensures generators { IfOk result (λ r. r.items ≡ extended_generators_of K.ring arr.now m.now) }
+    ensures generators { IfOk result (λ r. r.items ≡ essential_generators_of K.ring arr.now m.now pivots.now) }
 {
     let forms = arr.len();
     let mut gens = column_generators(alloc, arr, m)?;
     for i in 0..forms {
-        gens.push(power_generator(alloc, arr, m, i + 1)?)?;
+        gens.push(power_generator(alloc, arr, m, pivots, i + 1)?)?;
     }
     Ok(gens)
 }

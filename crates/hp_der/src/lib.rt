@@ -3,9 +3,12 @@
 #![tactic(auto)]
 
 mod basis;
+mod carried;
+mod coordinates;
+mod cover;
 mod generators;
 mod minimal;
 mod prepared;
 
-pub use basis::der_basis;
+pub use basis::{Derivations, der_basis};
 pub use minimal::min_gens;

@@ -8,6 +8,7 @@ ghost use Rattle.hp_der.specs.BasisSettings.{ArePivotsOf, HaveDegrees, IsPrepare
 ghost use Rattle.hp_graded.specs.MinimalGenerators.{GenerateSame, IsIrredundant};
 ghost use Rattle.hp_graded.specs.RelationConstants.{AreRising, IsDegreeRange, degree_at};
 
+use crate::cover::covering_pairs;
 use crate::prepared::Prepared;
 use hp_algebra::{Field, NoMem};
 use hp_module::{Basis, ModVec};
@@ -74,12 +75,14 @@ pub fn min_gens<F: Field>(alloc: Global, basis: &Basis<F>) -> Result<Vec<ModVec<
     ensures irredundant { IfOk result (λ r. IsIrredundant F.ring basis.now.width r.items) }
 {
     let prepared = Prepared::new(alloc, basis)?;
+    let leads = prepared.leads();
+    let pairs = covering_pairs(alloc, leads)?;
     let many = basis.members().len();
     let mut kept = Vec::new(alloc);
     let mut start = 0;
     while start < many {
-        let stop = degree_end(prepared.leads(), start);
-        let pivots = prepared.pivots(alloc, basis, start, stop)?;
+        let stop = degree_end(leads, start);
+        let pivots = prepared.pivots(alloc, basis, start, stop, pairs.as_slice())?;
         kept = keep(alloc, basis, start, stop, pivots.as_slice(), kept)?;
         start = stop;
     }

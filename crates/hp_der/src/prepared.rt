@@ -1,18 +1,19 @@
 //! A basis with its leads, prepared for division, and the constants that the divisions of its critical pairs give.
 
-ghost use Rattle.std.specs.Prelude.{◌≡◌, ◌≢◌, ◌↔◌, ◌≤◌, ◌<◌, ◌-◌, ◌+◌, ⊤, ℕ, [], All, IfOk, IsTrue, length, map, replicate, slice_index_or};
+ghost use Rattle.std.specs.Prelude.{◌≡◌, ◌≢◌, ◌↔◌, ◌≤◌, ◌<◌, ℕ, [], All, IfOk, IsTrue, length, replicate, slice_index_or};
 ghost use Rattle.hp_mono.specs.Monomials.{degree, lcm};
 ghost use Rattle.hp_module.specs.Vectors.{IsVector, zero_vector};
 ghost use Rattle.hp_module.specs.Leads.{IsGreatestTerm, no_term};
 ghost use Rattle.hp_module.specs.CriticalPairs.{pair_vector as pair_vector_of};
 ghost use Rattle.hp_module.specs.ElimOrders.{elimination_order};
 ghost use Rattle.hp_module.specs.FallingTerms.{AreDivisors, with_leads};
-ghost use Rattle.hp_graded.specs.RelationConstants.{ArePairRows, IsDegreeRange, IsPairOf, IsPairRow, constant_row as constant_row_of, degree_at, falling};
+ghost use Rattle.hp_graded.specs.RelationConstants.{IsDegreeRange, IsPairOf, IsPairRow, constant_row as constant_row_of, degree_at, falling};
 ghost use Rattle.hp_graded.proofs.BasisMembers.{basis_module};
 ghost use Rattle.hp_der.specs.BasisSettings.{ArePivotsOf, HaveDegrees, IsPrepared, led_by};
+ghost use Rattle.hp_der.specs.CoveringPairs.{AreCoveringPairs};
 
 use hp_algebra::{Field, List, Module, NoMem};
-use hp_linear::Matrix;
+use hp_linear::GrowingForm;
 use hp_module::{Basis, Divisors, ElimOrder, Grading, ModVec};
 use hp_mono::{Mono, Term};
 use hp_poly::Poly;
@@ -206,53 +207,8 @@ impl<F: Field> Prepared<F> {
         constant_row(alloc, quotients.as_slice(), start, stop)
     }
 
-    /// The rows, and those of the pairs of the degree of the range with later member i.
-    fn with_pair_rows(
-        &self,
-        alloc: Global,
-        basis: &Basis<F>,
-        start: usize,
-        stop: usize,
-        i: usize,
-        rows: Vec<Vec<F>>,
-    ) -> Result<Vec<Vec<F>>, NoMem>
-        requires prepared { IsPrepared F.ring F.inverse basis.now self.now }
-        requires range { IsDegreeRange (led_by basis.now self.now.leads) start stop }
-        requires within { i < length basis.now.members }
-        requires rows { ArePairRows (basis_module F.ring F.inverse basis.now) (led_by basis.now self.now.leads) start stop (λ j k. k < i) (map (λ row. row.items) rows.items) }
-        ensures { IfOk result (λ r. ArePairRows (basis_module F.ring F.inverse basis.now) (led_by basis.now self.now.leads) start stop (λ j k. k < i + 1) (map (λ row. row.items) r.items)) }
-    {
-        let d = self.leads[start].mono.degree();
-        let mut rows = rows;
-        for j in 0..i {
-            if self.is_pair(basis, d, j, i) {
-                rows.push(self.pair_row(alloc, basis, start, stop, j, i)?)?;
-            }
-        }
-        Ok(rows)
-    }
-
-    /// The rows of the pairs of the degree of a range.
-    fn pair_rows(
-        &self,
-        alloc: Global,
-        basis: &Basis<F>,
-        start: usize,
-        stop: usize,
-    ) -> Result<Vec<Vec<F>>, NoMem>
-        requires prepared { IsPrepared F.ring F.inverse basis.now self.now }
-        requires range { IsDegreeRange (led_by basis.now self.now.leads) start stop }
-        ensures { IfOk result (λ r. ArePairRows (basis_module F.ring F.inverse basis.now) (led_by basis.now self.now.leads) start stop (λ j i. ⊤) (map (λ row. row.items) r.items)) }
-    {
-        let mut rows = Vec::new(alloc);
-        for i in 0..stop {
-            rows = self.with_pair_rows(alloc, basis, start, stop, i, rows)?;
-        }
-        Ok(rows)
-    }
-
     /// The numbers of the columns of the members of a range that the members before them generate, counted from the
-    /// last member on.
+    /// last member on. The pairs cover all pairs. Their rows are read until each column has a pivot.
     ///
     /// Errors: `NoMem` where memory is out.
     pub(crate) fn pivots(
@@ -261,13 +217,27 @@ impl<F: Field> Prepared<F> {
         basis: &Basis<F>,
         start: usize,
         stop: usize,
+        pairs: &[(usize, usize)],
     ) -> Result<Vec<usize>, NoMem>
         requires prepared { IsPrepared F.ring F.inverse basis.now self.now }
         requires range { IsDegreeRange (led_by basis.now self.now.leads) start stop }
+        requires pairs { AreCoveringPairs self.now.leads (length basis.now.members) pairs.now }
         ensures { IfOk result (λ r. ArePivotsOf F.ring basis.now start stop r.items) }
     {
-        let rows = self.pair_rows(alloc, basis, start, stop)?;
-        let (_form, pivots) = Matrix::new(stop - start, rows).echelon(alloc)?;
+        let d = self.leads[start].mono.degree();
+        let mut form = GrowingForm::new(alloc, stop - start);
+        for k in 0..pairs.len() {
+            if form.is_full() {
+                let pivots = form.pivots(alloc)?;
+                return Ok(pivots);
+            }
+            let (j, i) = pairs[k];
+            if self.is_pair(basis, d, j, i) {
+                let row = self.pair_row(alloc, basis, start, stop, j, i)?;
+                form = form.with_row(row)?;
+            }
+        }
+        let pivots = form.pivots(alloc)?;
         Ok(pivots)
     }
 }

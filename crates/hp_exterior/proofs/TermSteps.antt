@@ -1,5 +1,5 @@
 -- Elements of the exterior algebra by their first terms: negatives, sums of one term, coefficients.
-use Rattle.std.specs.Prelude.{◌≡◌, true, false, [], ◌∷◌, map, cond, Some}
+use Rattle.std.specs.Prelude.{◌≡◌, List, [], ◌∷◌, map, cond, All, Some}
 use Rattle.std.specs.declared.cmp.Ordering.TheVariants.{Less, Greater}
 use Rattle.std.specs.Option.{unwrap_or}
 use Rattle.std.specs.Ordering.{is_eq}
@@ -8,13 +8,14 @@ use Rattle.std.proofs.lemmas.List.Elements.{All-tail, All-map}
 use mathlib.Core.Path.{sym, ap, ◌∙◌, subst}
 use Rattle.hp_algebra.specs.Ring.{RingOf, IsField}
 use Rattle.hp_sets.specs.Sets.{Set, IsSetWithin, cmp_listed}
+use Rattle.hp_sums.specs.FiniteSums.{HasValues}
 use Rattle.hp_sums.proofs.SumSetting.{SumSetting}
 use Rattle.hp_sums.proofs.Collected.{sum-tail}
-use Rattle.hp_sums.proofs.FirstTerms.{find_after, negated_sum, negative_negated, no_term, one_term, one_term_where}
+use Rattle.hp_sums.proofs.FirstTerms.{find_after, negated_sum, negative_negated, one_term}
 use Rattle.hp_sums.proofs.Merges.{before_all}
-use Rattle.hp_exterior.specs.Exterior.{Ext, IsExt, ext_coefficient, ext_neg, ext_plus, monomial}
+use Rattle.hp_exterior.specs.Exterior.{Ext, IsExt, ext_coefficient, ext_neg, ext_of, ext_plus, monomial}
 use Rattle.hp_exterior.specs.ExteriorSetting.{ext_setting}
-use Rattle.hp_exterior.specs.ExteriorRing.{monomial-IsExt, plus-IsExt}
+use Rattle.hp_exterior.specs.ExteriorRing.{ext_of-IsExt, plus-IsExt}
 
 module _ {F : Type 0} {ring : RingOf F} {inverse : F → F} (field : IsField ring inverse) where
   abbrev pub setting : SumSetting Set F
@@ -40,18 +41,10 @@ module _ {F : Type 0} {ring : RingOf F} {inverse : F → F} (field : IsField rin
   pub negatives_value : {x y : Ext F} → IsExt ring x → y ≡ map (λ t. (t.0, ring.neg t.1)) x → y ≡ ext_neg ring x
   negatives_value {x} {y} f e = e ∙ sym (negative_negated setting x f.is_sum)
 
-  -- one term, or nothing where its coefficient is zero
-  pub single_value : {s : Set} {c : F} {x : Ext F} → ring.IsValue c → ring.is_zero c ≡ false → x ≡ (s, c) ∷ []
-      → x ≡ monomial ring c s
-  single_value {s} {c} {x} v z e = e ∙ sym (one_term_where setting s c v z)
-
-  pub single_none : (s : Set) {c : F} {x : Ext F} → ring.IsValue c → ring.is_zero c ≡ true → x ≡ []
-      → x ≡ monomial ring c s
-  single_none s {c} {x} v z e = e ∙ sym (no_term setting s c v z)
-
-  pub single_ext : (s : Set) {c : F} {x : Ext F} → ring.IsValue c → IsSetWithin 64 s → x ≡ monomial ring c s
-      → IsExt ring x
-  single_ext s {c} {x} v h e = subst (IsExt ring) (sym e) (monomial-IsExt field.is_ring field.commutes c s v h)
+  -- the sum of terms with sets is an element
+  pub collected_ext : (ts : List (Set × F)) {x : Ext F} → HasValues ring ts → All (λ t. IsSetWithin 64 t.0) ts
+      → x ≡ ext_of ring ts → IsExt ring x
+  collected_ext ts v h e = subst (IsExt ring) (sym e) (ext_of-IsExt field.is_ring field.commutes ts v h)
 
   -- e_S itself
   pub one_value : (s : Set) {x : Ext F} → x ≡ (s, ring.one) ∷ [] → x ≡ monomial ring ring.one s

@@ -4,10 +4,12 @@ ghost use Rattle.std.specs.Prelude.{◌≡◌, ℕ, ◌≤◌, [], length, slice
 ghost use Rattle.hp_exterior.specs.Exterior.{HasProductRule, IsExt, boundary, ext_coefficient, ext_of, ext_ring, generator};
 ghost use Rattle.hp_exterior.specs.ExteriorRing.{ext_is_ring, ext_weights};
 
+use crate::order::AsListed;
 use crate::products::{boundary_of, multiplied};
-use crate::terms::{coefficient, collected, merged, negatives, same_terms};
+use crate::terms::{coefficient, collected, merged};
 use hp_algebra::{Field, NoMem, Ring};
 use hp_sets::HSet;
+use hp_sums::{negated, same_terms};
 use std::alloc::Global;
 use std::marker::Model;
 
@@ -136,7 +138,7 @@ impl<F: Field> Ring for Ext<F> {
 
     fn neg(&self, alloc: Global) -> Result<Self, NoMem> {
         Ok(Ext {
-            terms: negatives(alloc, self.terms.as_slice())?,
+            terms: negated(alloc, self.terms.as_slice())?,
         })
     }
 
@@ -151,7 +153,7 @@ impl<F: Field> Ring for Ext<F> {
     }
 
     fn equal(&self, other: &Self) -> bool {
-        same_terms(self.terms.as_slice(), other.terms.as_slice())
+        same_terms(&AsListed, self.terms.as_slice(), other.terms.as_slice())
     }
 
     fn weight(&self) -> u32 {

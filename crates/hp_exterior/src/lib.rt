@@ -5,6 +5,7 @@
 #![tactic(auto)]
 
 mod ext;
+mod order;
 mod products;
 mod terms;
 

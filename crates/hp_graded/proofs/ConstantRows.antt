@@ -13,7 +13,7 @@ use Rattle.hp_linear.specs.Spaces.{IsCombination}
 use Rattle.hp_linear.proofs.Combinations.{span-plus, span-scale, span-zero}
 use Rattle.hp_mono.specs.declared.term.Term.{Term}
 use Rattle.hp_mono.specs.Monomials as mono
-use Rattle.hp_mono.specs.Monomials.{Monomial, IsMonomial, degree, lcm, product, vars, cofactor}
+use Rattle.hp_mono.specs.Monomials.{Divides, Monomial, IsMonomial, degree, lcm, product, vars, cofactor}
 use Rattle.hp_mono.specs.TermOrders.{IsTermWithin, TermDivides, times}
 use Rattle.hp_mono.proofs.MonomialLaws.{cofactor-monomial, cofactor_product, degree_product, lcm_comm, product-one}
 use Rattle.hp_sums.specs.FiniteSums.{total}
@@ -38,7 +38,7 @@ use Rattle.hp_module.proofs.GroebnerBases.{remainder_zero}
 use Rattle.hp_module.proofs.PairRelations.{IsPair, IsRelationOf, divided_pair, pair-degree, pair-vector}
 use Rattle.hp_module.proofs.ResolvedPairs.{IsRelation, relations-space}
 use Rattle.hp_module.proofs.Symbols.{generated-member, generated-multiple, generated-plus}
-use Rattle.hp_graded.proofs.DivisionExistence.{division_exists}
+use Rattle.hp_module.proofs.DivisionExistence.{division_exists}
 use Rattle.hp_graded.specs.RelationConstants.{constant_row, unit}
 
 -- ---- rows given place by place
@@ -221,12 +221,18 @@ module _ {F : Type 0} {M : FreeModule F} (L : IsFreeModule M) {s : WithLeads F} 
 
       -- ---- the critical pairs, counted from 1
 
-      -- The constants that divisions of the pairs of this degree give are combinations of the rows.
-      abbrev pub AreDivided : Type 0
-      AreDivided = (j i : ℕ) → 1 ≤ j → j < i → i ≤ length s.members → (lead_of L led j).comp ≡ (lead_of L led i).comp
-          → degree_of M (lead_times s (pair_symbol L led i j)) ≡ d
+      -- The constants that divisions of these pairs of this degree give are combinations of the rows.
+      abbrev pub AreDivided : (ℕ → ℕ → Type 0) → Type 0
+      AreDivided P = (j i : ℕ) → 1 ≤ j → j < i → i ≤ length s.members → (lead_of L led j).comp ≡ (lead_of L led i).comp
+          → degree_of M (lead_times s (pair_symbol L led i j)) ≡ d → P j i
           → (qs r : Vector F) × IsDivided M (pair_vector M.ring s (j - 1) (i - 1) M.ring.one M.ring.one) s qs r
           × IsCombination M.ring (length cols) rows (constant_row M.ring cols qs)
+
+      -- Each pair is covered by one of these with the same later member, whose cofactor divides its own.
+      abbrev pub AreCovering : (ℕ → ℕ → Type 0) → Type 0
+      AreCovering P = (j i : ℕ) → 1 ≤ j → j < i → i ≤ length s.members → (lead_of L led j).comp ≡ (lead_of L led i).comp
+          → (k : ℕ) × (1 ≤ k) × (k < i) × ((lead_of L led k).comp ≡ (lead_of L led i).comp) × P k i
+          × Divides (cofactor (lead_of L led i).mono (lead_of L led k).mono) (cofactor (lead_of L led i).mono (lead_of L led j).mono)
 
       spanned-pair : (j i : ℕ) (p : IsPair L led j i ring.one ring.one) → j ≢ i → (qs r : Vector F)
           → IsDivided M (pair_vector ring s (j - 1) (i - 1) ring.one ring.one) s qs r → r ≡ zero_vector ring width
@@ -250,16 +256,16 @@ module _ {F : Type 0} {M : FreeModule F} (L : IsFreeModule M) {s : WithLeads F} 
                 (span-scale laws (length cols) rows are (ring.neg ring.one) _ no sp),
           ))
 
-      module _ (groebner : IsGroebner M s) (known : AreDivided) where
-        pair-reduced : (j i : ℕ) → 1 ≤ j → j < i → i ≤ n → (lead_of L led j).comp ≡ (lead_of L led i).comp
+      module _ (groebner : IsGroebner M s) (P : ℕ → ℕ → Type 0) (known : AreDivided P) (covering : AreCovering P) where
+        pair-reduced : (j i : ℕ) → 1 ≤ j → j < i → i ≤ n → (lead_of L led j).comp ≡ (lead_of L led i).comp → P j i
             → IsReducedPair L led Rel j i
-        pair-reduced j i lo less hi same =
+        pair-reduced j i lo less hi same pr =
             let p = monic_pair monic j i lo (omega (arith, less, hi)) (omega (arith, lo, less)) hi same in
             let ne : j ≢ i = λ q. absurd (omega (arith, q, less)) in
             let gen = pair_generated p in
             elim (cases_eq (degree_of M (lead_times s (pair_symbol L led i j))) d) [
               | inl q ↦
-                  let k = known j i lo less hi same q in
+                  let k = known j i lo less hi same q pr in
                   spanned-pair j i p ne k.0 k.1 k.2 (remainder_zero L led groebner gen k.2) k.3
               | inr o ↦
                   let x = division_exists L led _ (pair-vector L led p) (degree_of M (lead_times s (pair_symbol L led i j))) (pair-degree L led p) in
@@ -287,17 +293,19 @@ module _ {F : Type 0} {M : FreeModule F} (L : IsFreeModule M) {s : WithLeads F} 
         }
 
         covers : (e : ℕ) → CoversUpTo L led Rel (λ i. i) e
-        covers e j i a b c h l m q = record {
-          place = j;
-          low = a;
-          high = b;
-          before = l;
-          same_comp = m;
-          factor = mono.one;
-          factor_monomial = refl;
-          divides = product-one _ (cofactor-monomial (lead_of L led i).mono (lead_of L led j).mono (lead-in L led i c h).0 (lead-in L led j a b).0);
-          reduced = pair-reduced j i a l h m;
-        }
+        covers e j i a b c h l m q =
+            let v = covering j i a l h m in
+            record {
+              place = v.0;
+              low = v.1;
+              high = (let x = v.2 in omega (arith, x, h));
+              before = v.2;
+              same_comp = v.3;
+              factor = v.5.0;
+              factor_monomial = v.5.1;
+              divides = v.5.2;
+              reduced = pair-reduced v.0 i v.1 v.2 h v.3 v.4;
+            }
 
         -- The constants of each relation are a combination of the rows.
         pub relation_spanned : (qs : Vector F) → IsVector ring (length s.members) qs

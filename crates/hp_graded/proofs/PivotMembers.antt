@@ -1,6 +1,6 @@
 -- The members of one degree that the members before them generate are those at the pivots of the echelon form of the
 -- constants of the critical pairs of that degree.
-use Rattle.std.specs.Prelude.{◌≡◌, ◌≢◌, ◌↔◌, ⊤, ℕ, ◌+◌, ◌-◌, ◌<◌, ◌≤◌, List, [], ◌∷◌, map, length, take, All, Contains, slice_index_or}
+use Rattle.std.specs.Prelude.{◌≡◌, ◌≢◌, ◌↔◌, ℕ, ◌+◌, ◌-◌, ◌<◌, ◌≤◌, List, [], ◌∷◌, map, length, take, All, Contains, slice_index_or}
 use Rattle.std.proofs.lemmas.Bool.{cases_eq}
 use Rattle.std.proofs.lemmas.List.{get_or-map, length-map}
 use Rattle.std.proofs.lemmas.List.FromFn.{get_or-map-range_with_len, length-map-range_with_len}
@@ -16,7 +16,7 @@ use Rattle.hp_linear.specs.Matrices.{Matrix, IsEchelonForm, IsInRowSpace}
 use Rattle.hp_linear.specs.Spaces.{IsCombination}
 use Rattle.hp_linear.proofs.Combinations.{span-member, times-plus, times-scale, times-zeros}
 use Rattle.hp_mono.specs.declared.term.Term.{Term}
-use Rattle.hp_mono.specs.Monomials.{degree, lcm}
+use Rattle.hp_mono.specs.Monomials.{Divides, cofactor, degree, lcm}
 use Rattle.hp_mono.specs.TermOrders.{IsTermWithin, TermDivides}
 use Rattle.hp_mono.proofs.MonomialLaws.{cofactor_product, lcm_comm}
 use Rattle.hp_sums.specs.FiniteSums.{total}
@@ -40,8 +40,8 @@ use Rattle.hp_module.proofs.OrderedTerms.{degree-times}
 use Rattle.hp_module.proofs.Criterion.{lead-in, lead_of, pair_symbol, pair_top}
 use Rattle.hp_module.proofs.GroebnerBases.{remainder_zero}
 use Rattle.hp_module.proofs.PairRelations.{divided_pair, pair-degree}
-use Rattle.hp_graded.specs.RelationConstants.{ArePairRows, AreRising, IsDegreeRange, IsPairOf, IsPairRow, constant_row, degree_at, falling, unit}
-use Rattle.hp_graded.proofs.ConstantRows.{AreDivided, map-all, map-plus, map-scale, map-zero, monic_pair, pair_generated, relation-constants, relation_spanned}
+use Rattle.hp_graded.specs.RelationConstants.{ArePairRows, AreRising, IsCovering, IsDegreeRange, IsPairOf, IsPairRow, constant_row, degree_at, falling, unit}
+use Rattle.hp_graded.proofs.ConstantRows.{AreCovering, AreDivided, map-all, map-plus, map-scale, map-zero, monic_pair, pair_generated, relation-constants, relation_spanned}
 use Rattle.hp_graded.proofs.LastConstants.{IsLastConstant, generated_iff}
 use Rattle.hp_graded.proofs.PivotPlaces.{IsFirstPlace, pivot-iff}
 
@@ -249,7 +249,7 @@ module _ {F : Type 0} {M : FreeModule F} (L : IsFreeModule M) {s : WithLeads F} 
 
   -- ---- the rows of the pairs
 
-  module _ (rows : List (List F)) (pair_rows : ArePairRows M s start stop (λ j i. ⊤) rows) where
+  module _ (P : ℕ → ℕ → Type 0) (rows : List (List F)) (pair_rows : ArePairRows M s start stop P rows) where
     abbrev FromPair : List F → Type 0
     FromPair row = (j i : ℕ) × IsPairOf s d j i × IsPairRow M s start stop j i row
 
@@ -285,25 +285,6 @@ module _ {F : Type 0} {M : FreeModule F} (L : IsFreeModule M) {s : WithLeads F} 
     at-degree : All (λ j. (j < length s.members) × (degree_of M (lead_at s j) ≡ d)) cols
     at-degree = All-from_get_or (λ (j : ℕ). (j < length s.members) × (degree_of M (lead_at s j) ≡ d)) cols 0
         (λ c l. let r = column-degree c l in (r.0, plain (lead_at s (slice_index_or cols c 0)) ∙ r.1))
-
-    known : AreDivided L led monic apart d cols at-degree rows rows-are
-    known j i lo less hi same q =
-        let r = pair_rows.all (j - 1) (i - 1) (record {
-          earlier = omega (arith, less, lo);
-          inside = omega (arith, less, lo, hi);
-          same_component = same;
-          lcm_degree_is = sym (pair-lcm j i lo (omega (arith, less, hi)) (omega (arith, lo, less)) hi) ∙ q;
-        }) tt in
-        (r.2.0, r.2.1, r.2.2, subst (IsCombination ring (length cols) rows) r.2.3 (span-member laws (length cols) rows r.0 rows-are r.1))
-
-    spanned : (rel : Vector F) → IsVector ring n rel → combination ring width rel s.members ≡ zero_vector ring width
-        → (e : ℕ) → HasDegree MR e rel → IsCombination ring (length cols) rows (constant_row ring cols rel)
-    spanned rel h z e f =
-        let w = within laws comm n rel h in
-        relation_spanned L led monic apart d cols at-degree rows rows-are groebner known rel h z e (λ x t l.
-        let q = symbol-degree (slice_index_or (terms rel) x t).0 (w x t l) in
-        let p = f x t l in
-        omega (arith, q, p))
 
     module _ (e : Matrix F) (pivots : List ℕ) (form : IsEchelonForm M.ring (record { cols = stop - start; rows = rows }) e pivots)
         (i : ℕ) (low : start ≤ i) (high : i < stop) where
@@ -355,26 +336,70 @@ module _ {F : Type 0} {M : FreeModule F} (L : IsFreeModule M) {s : WithLeads F} 
             },
           )
 
-      pivot_from_last : ((rel : Vector F) × IsLastConstant ring width s.members D i rel) → Contains pivots c
-      pivot_from_last r =
-          let rel = r.0 in
-          let last = r.1 in
-          is-pivot.1 (
-            constant_row ring cols rel,
-            spanned rel last.vector last.relation (D i) last.degrees,
-            (
-              (λ z. last.here (ap (λ x. coefficient_at ring rel (unit x)) (sym place-is) ∙ sym (constant-at rel (c - 1) place) ∙ z)),
-              (λ b less.
-                  let lb : b < length cols = omega (arith, less, place) in
-                  let e = cols-at b lb in
-                  let g = column-degree b lb in
-                  constant-at rel b lb
-                  ∙ last.later (slice_index_or cols b 0) (omega (arith, e, less, high)) g.0 (D-is (slice_index_or cols b 0) g.0 ∙ g.1 ∙ sym of-degree)),
-            ),
-          )
+      -- ---- where the pairs with rows cover all pairs
 
-      -- The member is generated by those before it exactly where its column has a pivot.
-      pub pivot_generated : Contains pivots (stop - i) ↔ IsGenerated M.ring M.width (take i s.members) (slice_index_or s.members i [])
-      pivot_generated =
+      module _ (covering : IsCovering s P) where
+        abbrev Q : ℕ → ℕ → Type 0
+        Q j i = P (j - 1) (i - 1)
+
+        known : AreDivided L led monic apart d cols at-degree rows rows-are Q
+        known j i lo less hi same q pr =
+            let r = pair_rows.all (j - 1) (i - 1) (record {
+              earlier = omega (arith, less, lo);
+              inside = omega (arith, less, lo, hi);
+              same_component = same;
+              lcm_degree_is = sym (pair-lcm j i lo (omega (arith, less, hi)) (omega (arith, lo, less)) hi) ∙ q;
+            }) pr in
+            (r.2.0, r.2.1, r.2.2, subst (IsCombination ring (length cols) rows) r.2.3 (span-member laws (length cols) rows r.0 rows-are r.1))
+
+        covering-symbols : AreCovering L led monic apart d cols at-degree rows rows-are Q
+        covering-symbols j i lo less hi same =
+            let c = covering (j - 1) (i - 1) (omega (arith, lo, less)) (omega (arith, less, hi)) same in
+            let k = c.place in
+            let back : (k + 1) - 1 ≡ k = omega arith in (
+              k + 1,
+              omega arith,
+              (let x = c.earlier in omega (arith, x, less, lo)),
+              ap (λ x. (lead_at s x).comp) back ∙ c.same_component,
+              subst (λ x. P x (i - 1)) (sym back) c.listed,
+              subst (λ x. Divides (cofactor (lead_at s (i - 1)).mono (lead_at s x).mono) (cofactor (lead_at s (i - 1)).mono (lead_at s (j - 1)).mono)) (sym back) c.divides,
+            )
+
+        spanned : (rel : Vector F) → IsVector ring n rel → combination ring width rel s.members ≡ zero_vector ring width
+            → (e : ℕ) → HasDegree MR e rel → IsCombination ring (length cols) rows (constant_row ring cols rel)
+        spanned rel h z e f =
+            let w = within laws comm n rel h in
+            relation_spanned L led monic apart d cols at-degree rows rows-are groebner Q known covering-symbols rel h z e (λ x t l.
+            let q = symbol-degree (slice_index_or (terms rel) x t).0 (w x t l) in
+            let p = f x t l in
+            omega (arith, q, p))
+
+        pivot_from_last : ((rel : Vector F) × IsLastConstant ring width s.members D i rel) → Contains pivots c
+        pivot_from_last r =
+            let rel = r.0 in
+            let last = r.1 in
+            is-pivot.1 (
+              constant_row ring cols rel,
+              spanned rel last.vector last.relation (D i) last.degrees,
+              (
+                (λ z. last.here (ap (λ x. coefficient_at ring rel (unit x)) (sym place-is) ∙ sym (constant-at rel (c - 1) place) ∙ z)),
+                (λ b less.
+                    let lb : b < length cols = omega (arith, less, place) in
+                    let e = cols-at b lb in
+                    let g = column-degree b lb in
+                    constant-at rel b lb
+                    ∙ last.later (slice_index_or cols b 0) (omega (arith, e, less, high)) g.0 (D-is (slice_index_or cols b 0) g.0 ∙ g.1 ∙ sym of-degree)),
+              ),
+            )
+
+        -- The member is generated by those before it exactly where its column has a pivot.
+        pub pivot_generated : Contains pivots (stop - i) ↔ IsGenerated M.ring M.width (take i s.members) (slice_index_or s.members i [])
+        pivot_generated =
+            let g = generated_iff L s.members led.vectors D homogeneous rises i inside in
+            (λ at. g.1 (last_from_pivot at), λ h. pivot_from_last (g.0 h))
+
+      -- Where each column has a pivot each member is generated, whichever pairs have rows.
+      pub pivot_full : Contains pivots (stop - i) → Contains pivots (stop - i) ↔ IsGenerated M.ring M.width (take i s.members) (slice_index_or s.members i [])
+      pivot_full at =
           let g = generated_iff L s.members led.vectors D homogeneous rises i inside in
-          (λ at. g.1 (last_from_pivot at), λ h. pivot_from_last (g.0 h))
+          (λ x. g.1 (last_from_pivot x), λ h. at)

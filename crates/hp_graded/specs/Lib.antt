@@ -1,2 +1,3 @@
+pub mod EssentialRows
 pub mod MinimalGenerators
 pub mod RelationConstants

@@ -18,11 +18,11 @@ use Rattle.hp_module.proofs.EntryTerms.{terms_each}
 use Rattle.hp_module.proofs.LeadsGenerate.{IsDividedBy, leads_generate}
 use Rattle.hp_module.proofs.LeastLeads.{IsMade, is_reduced}
 use Rattle.hp_module.proofs.Symbols.{generated-chain, generated-member, generated-multiple, generated-plus, generated-vector}
-use Rattle.hp_groebner.specs.BasisEnds.{AreListed, AreTailsReduced, listed_order, place}
+use Rattle.hp_groebner.specs.BasisEnds.{AreListed, AreMembersAt, listed_order, place}
 use Rattle.hp_groebner.specs.LimitRules.{most_degree}
 use Rattle.hp_groebner.specs.PairQueues.{nth}
 use Rattle.hp_groebner.specs.Runs.{IsAnswer, IsJob, IsRun, Job, State, generator_degree, held, module_of, submodule}
-use Rattle.hp_groebner.proofs.ReducedTails.{IsNewMember, new-member}
+use Rattle.hp_groebner.proofs.ReducedTails.{IsNewMember}
 use Rattle.hp_groebner.proofs.RunMembers.{plain, submodule-vector}
 use Rattle.hp_groebner.proofs.RunStops.{all-divided, never-stops}
 
@@ -37,7 +37,7 @@ homogeneous-vector {F} {J} of v d h =
 
 module _ {F : Type 0} {J : Job F} {s : State F} (r : IsRun J s (most_degree + 1) 0 0 (most_degree + 1))
     {ps : List ℕ} (o : AreListed J.split s.queue.leads ps) {ws : List (Vector F)}
-    (tails : AreTailsReduced J s ps (length ps) ws) where
+    (kept : AreMembersAt s ps (length ps) ws) where
   abbrev of : IsJob J
   of = r.0.done.of
 
@@ -55,13 +55,24 @@ module _ {F : Type 0} {J : Job F} {s : State F} (r : IsRun J s (most_degree + 1)
   listed = record { members = ws; leads = map (nth s.queue.leads) ps }
 
   at : (i : ℕ) → i < length ws → place ps i < length s.members
-  at i l = let a = o.inside i 0 (omega (arith, l, tails.many)) in omega (arith, a, r.0.done.led.same_length)
+  at i l = let a = o.inside i 0 (omega (arith, l, kept.many)) in omega (arith, a, r.0.done.led.same_length)
 
   lead-is : (i : ℕ) → i < length ws → lead_at listed i ≡ lead_at (held s) (place ps i)
-  lead-is i l = get_or-map (nth s.queue.leads) ps i 0 no_term (omega (arith, l, tails.many))
+  lead-is i l = get_or-map (nth s.queue.leads) ps i 0 no_term (omega (arith, l, kept.many))
+
+  -- at the end of a run all tails are reduced
+  kept-member : (p : ℕ) → p < length s.members → IsNewMember s r.0.done p (member_at (held s) p)
+  kept-member p l = record {
+    member = r.0.done.members p l;
+    vector = r.0.done.led.vectors p [] l;
+    greatest = r.0.done.monic p l;
+    of_degree = r.0.done.led.homogeneous p l;
+    tails = λ j m. r.0.tails p j l m (r.0.done.low p l);
+  }
 
   new : (i : ℕ) → i < length ws → IsNewMember s r.0.done (place ps i) (member_at listed i)
-  new i l = new-member s r.0.done (place ps i) (at i l) (tails.each i (omega (arith, l, tails.many)))
+  new i l =
+      subst (IsNewMember s r.0.done (place ps i)) (sym (kept.each i (omega (arith, l, kept.many)))) (kept-member (place ps i) (at i l))
 
   greatest : (i : ℕ) → i < length ws
       → IsGreatestTerm (elimination_order J.split) (member_at listed i) (lead_at listed i) J.ring.one
@@ -75,7 +86,7 @@ module _ {F : Type 0} {J : Job F} {s : State F} (r : IsRun J s (most_degree + 1)
       let a = all-divided r t q in
       let b = a.1 in
       let c = o.all a.0 (omega (arith, b, r.0.done.led.same_length)) in
-      let low : c.0 < length ws = omega (arith, c.1, tails.many) in
+      let low : c.0 < length ws = omega (arith, c.1, kept.many) in
       let here : place ps c.0 ≡ a.0 = get_or_default ps c.0 0 a.0 c.1 ∙ c.2 in
       (c.0, low, subst (λ u. TermDivides u t) (sym (lead-is c.0 low ∙ ap (lead_at (held s)) here)) a.2)
 
@@ -88,7 +99,7 @@ module _ {F : Type 0} {J : Job F} {s : State F} (r : IsRun J s (most_degree + 1)
   led : AreLed (module_of J) listed
   led = record {
     vectors = vectors;
-    same_length = length-map ps (nth s.queue.leads) ∙ sym tails.many;
+    same_length = length-map ps (nth s.queue.leads) ∙ sym kept.many;
     led = λ i l. (J.ring.one, greatest i l);
     homogeneous = λ i l. subst (λ t. HasDegree (module_of J) (degree_of (module_of J) t) (member_at listed i))
         (sym (lead-is i l)) (new i l).of_degree;
@@ -122,7 +133,7 @@ module _ {F : Type 0} {J : Job F} {s : State F} (r : IsRun J s (most_degree + 1)
     made = record {
       member = member;
       monic = greatest;
-      apart = λ i j a b d. o.once i j (omega (arith, a, tails.many)) (omega (arith, b, tails.many))
+      apart = λ i j a b d. o.once i j (omega (arith, a, kept.many)) (omega (arith, b, kept.many))
           (r.0.done.apart (place ps i) (place ps j) (at i a) (at j b)
           (subst (TermDivides (lead_at (held s) (place ps i))) (lead-is j b)
           (subst (λ u. TermDivides u (lead_at listed j)) (lead-is i a) d)));
@@ -135,7 +146,7 @@ module _ {F : Type 0} {J : Job F} {s : State F} (r : IsRun J s (most_degree + 1)
       in_order = λ i j a b.
           let x = lead-is i (omega (arith, a, b)) in
           let y = lead-is j b in
-          (λ k. listed_order J.split (x k) (y k)) ∙ o.in_order i j a (omega (arith, b, tails.many));
+          (λ k. listed_order J.split (x k) (y k)) ∙ o.in_order i j a (omega (arith, b, kept.many));
     }
 
   homogeneous : All (λ v. (d : ℕ) × (d ≤ most_degree) × IsHomogeneousVector J.ring d v) ws

@@ -1,4 +1,5 @@
 pub mod FinishedBases
+pub mod KeptTails
 pub mod ListedPlaces
 pub mod LoopSteps
 pub mod MinimalCofactors
@@ -7,6 +8,7 @@ pub mod PairDegrees
 pub mod PairRemainders
 pub mod QueueSteps
 pub mod ReducedTails
+pub mod ReplacedMembers
 pub mod RunMembers
 pub mod RunPairs
 pub mod RunReductions

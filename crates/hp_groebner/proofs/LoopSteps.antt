@@ -14,7 +14,7 @@ use Rattle.hp_module.proofs.Symbols.{generated-zero}
 use Rattle.hp_groebner.specs.declared.limits.Stop.{Stop}
 use Rattle.hp_groebner.specs.declared.limits.Stop.TheVariants as stops
 use Rattle.hp_groebner.specs.PairQueues.{Queue, bucket}
-use Rattle.hp_groebner.specs.Runs.{HasLeadOfDegree, IsJob, IsOver, IsReduced, IsRun, IsRunStop, Job, State, generator, generator_degree, held, module_of, pair_at}
+use Rattle.hp_groebner.specs.Runs.{AreReducedAt, HasLeadOfDegree, IsJob, IsOver, IsReduced, IsRun, IsRunStop, Job, State, generator, generator_degree, held, module_of, pair_at}
 use Rattle.hp_groebner.proofs.RunMembers.{comm, higher, laws, plain}
 use Rattle.hp_groebner.proofs.RunStops.{degree-stop, next-degree}
 use Rattle.hp_groebner.proofs.RunReductions.{generator-step, generator-stop, pair-bucket, pair-step, pair-stop, with-generator}
@@ -111,6 +111,7 @@ module _ {F : Type 0} {J : Job F} {s : State F} {d : ℕ} where
       queue = r.0.queue;
       calm = r.0.calm;
       passed = r.0.passed;
+      tails = r.0.tails;
     },
     r.1,
   )
@@ -134,5 +135,5 @@ module _ {F : Type 0} {J : Job F} {s : State F} {d : ℕ}
   pub degree-over : b ≡ true → IsRunStop J stops.Degree
   degree-over e = degree-stop r.0 r.1 (sym high-is ∙ e)
 
-  pub degree-passed : b ≡ false → IsRun J s (d + 1) 0 0 (d + 1)
-  degree-passed e = next-degree r.0 r.1 (not-true s.queue.high (sym high-is ∙ e))
+  pub degree-passed : b ≡ false → AreReducedAt (held s) (λ i. i < length s.members) → IsRun J s (d + 1) 0 0 (d + 1)
+  degree-passed e tails = next-degree r.0 r.1 (not-true s.queue.high (sym high-is ∙ e)) tails

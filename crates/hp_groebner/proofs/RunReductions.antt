@@ -237,6 +237,7 @@ module _ {F : Type 0} {J : Job F} {s : State F} {d g p top : ℕ} (r : IsRunning
     queue = r.queue;
     calm = r.calm;
     passed = r.passed;
+    tails = r.tails;
   }
 
   -- one generator more, if it has degree d
@@ -291,20 +292,20 @@ module _ {F : Type 0} {J : Job F} {s s' : State F} {d g p : ℕ} (r : IsRunning 
 
 -- ---- pairs
 
-module _ {F : Type 0} {J : Job F} {s : State F} {d g p : ℕ} (r : IsRunning J s d g p (d + 1)) {j i : ℕ}
-    (pr : IsPair s.queue.leads j i) where
+module _ {F : Type 0} {J : Job F} (s : State F) {top : ℕ} {P : ℕ → Type 0} {R : ℕ → ℕ → Type 0}
+    (h : HaveDone J (held s) top P R) {j i : ℕ} (pr : IsPair s.queue.leads j i) where
   j-place : j ≡ j + 1 - 1
   j-place = omega arith
 
   i-place : i ≡ i + 1 - 1
   i-place = omega arith
 
-  as-pair : Rattle.hp_module.proofs.PairRelations.IsPair r.done.of.lawful r.done.led (j + 1) (i + 1) J.ring.one J.ring.one
+  as-pair : Rattle.hp_module.proofs.PairRelations.IsPair h.of.lawful h.led (j + 1) (i + 1) J.ring.one J.ring.one
   as-pair =
-      let w = pair-within s r.done pr in
+      let w = pair-within s h pr in
       let wj = w.0 in
       let wi = w.1 in
-      monic-pair r.done.of.lawful r.done.led r.done.monic (j + 1) (i + 1) (omega arith) (omega (arith, wj)) (omega arith) (omega (arith, wi))
+      monic-pair h.of.lawful h.led h.monic (j + 1) (i + 1) (omega arith) (omega (arith, wj)) (omega arith) (omega (arith, wi))
       (ap (λ k. (nth s.queue.leads k).comp) (sym j-place) ∙ pr.same_component ∙ ap (λ k. (nth s.queue.leads k).comp) i-place)
 
   vector-place : pair_vector J.ring (held s) (j + 1 - 1) (i + 1 - 1) J.ring.one J.ring.one
@@ -312,35 +313,35 @@ module _ {F : Type 0} {J : Job F} {s : State F} {d g p : ℕ} (r : IsRunning J s
   vector-place = λ k. pair_vector J.ring (held s) (sym j-place k) (sym i-place k) J.ring.one J.ring.one
 
   -- the vector of the pair has the degree of the lcm,
-  pub pair-homogeneous : pair_degree s.queue.leads j i ≡ d
+  pub pair-homogeneous : {d : ℕ} → pair_degree s.queue.leads j i ≡ d
       → HasDegree (module_of J) d (pair_vector J.ring (held s) j i J.ring.one J.ring.one)
-  pair-homogeneous e =
-      let w = pair-within s r.done pr in
+  pair-homogeneous {d} e =
+      let w = pair-within s h pr in
       let wj = w.0 in
       let wi = w.1 in
-      let q = pair-degree r.done.of.lawful r.done.led as-pair in
-      let z = symbol-degree s r.done (j + 1) (i + 1) (omega arith) (omega (arith, wj)) (omega arith) (omega (arith, wi))
+      let q = pair-degree h.of.lawful h.led as-pair in
+      let z = symbol-degree s h (j + 1) (i + 1) (omega arith) (omega (arith, wj)) (omega arith) (omega (arith, wi))
       ∙ (λ k. pair_degree s.queue.leads (sym j-place k) (sym i-place k)) ∙ e in
       subst (HasDegree (module_of J) d) vector-place (subst (λ n. HasDegree (module_of J) n (pair_vector J.ring (held s) (j + 1 - 1) (i + 1 - 1) J.ring.one J.ring.one)) z q)
 
   -- and is a vector of the module, in the submodule
   pub pair-in : IsIn (module_of J) (pair_vector J.ring (held s) j i J.ring.one J.ring.one)
-  pair-in = subst (IsIn (module_of J)) vector-place (pair-vector r.done.of.lawful r.done.led as-pair)
+  pair-in = subst (IsIn (module_of J)) vector-place (pair-vector h.of.lawful h.led as-pair)
 
   pub pair-member : submodule J (pair_vector J.ring (held s) j i J.ring.one J.ring.one)
   pair-member =
-      let w = pair-within s r.done pr in
-      let mj = lead-monomial r.done j w.0 in
-      let mi = lead-monomial r.done i w.1 in
-      let one = (laws r.done.of).one_value in
-      let minus = (laws r.done.of).neg_value J.ring.one one in
-      generated-plus (laws r.done.of) (comm r.done.of) J.width J.gens r.done.of.vectors _ _
-      (generated-multiple (laws r.done.of) (comm r.done.of) J.width J.gens r.done.of.vectors J.ring.one
+      let w = pair-within s h pr in
+      let mj = lead-monomial h j w.0 in
+      let mi = lead-monomial h i w.1 in
+      let one = (laws h.of).one_value in
+      let minus = (laws h.of).neg_value J.ring.one one in
+      generated-plus (laws h.of) (comm h.of) J.width J.gens h.of.vectors _ _
+      (generated-multiple (laws h.of) (comm h.of) J.width J.gens h.of.vectors J.ring.one
       (cofactor (nth s.queue.leads i).mono (nth s.queue.leads j).mono) (member_at (held s) i) one
-      (cofactor-monomial (nth s.queue.leads i).mono (nth s.queue.leads j).mono mi mj) (r.done.members i w.1))
-      (generated-multiple (laws r.done.of) (comm r.done.of) J.width J.gens r.done.of.vectors (J.ring.neg J.ring.one)
+      (cofactor-monomial (nth s.queue.leads i).mono (nth s.queue.leads j).mono mi mj) (h.members i w.1))
+      (generated-multiple (laws h.of) (comm h.of) J.width J.gens h.of.vectors (J.ring.neg J.ring.one)
       (cofactor (nth s.queue.leads j).mono (nth s.queue.leads i).mono) (member_at (held s) j) minus
-      (cofactor-monomial (nth s.queue.leads j).mono (nth s.queue.leads i).mono mj mi) (r.done.members j w.0))
+      (cofactor-monomial (nth s.queue.leads j).mono (nth s.queue.leads i).mono mj mi) (h.members j w.0))
 
 module _ {F : Type 0} {J : Job F} {s s' : State F} {d g p : ℕ} (r : IsRunning J s d g p (d + 1))
     (l : p < length (bucket s.queue d)) {v : Vector F}
@@ -349,10 +350,10 @@ module _ {F : Type 0} {J : Job F} {s s' : State F} {d g p : ℕ} (r : IsRunning 
   pr = (r.queue.listed d p (0, 0) l).0
 
   gv : submodule J v
-  gv = subst (submodule J) (sym is) (pair-member r pr)
+  gv = subst (submodule J) (sym is) (pair-member s r.done pr)
 
   hd : HasDegree (module_of J) d v
-  hd = subst (HasDegree (module_of J) d) (sym is) (pair-homogeneous r pr (r.queue.listed d p (0, 0) l).1)
+  hd = subst (HasDegree (module_of J) d) (sym is) (pair-homogeneous s r.done pr (r.queue.listed d p (0, 0) l).1)
 
   -- the pair is divided
   pub pair-step : IsRunning J s' d g (p + 1) (d + 1)

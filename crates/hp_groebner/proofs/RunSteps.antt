@@ -18,9 +18,10 @@ use Rattle.hp_module.proofs.DividingTerms.{divides-itself}
 use Rattle.hp_module.proofs.LongerBases.{longer}
 use Rattle.hp_groebner.specs.LimitRules.{AreDifferentLeastLeads, HasTooManyPairs, IsLeastLeadUpTo, StopsForPairs}
 use Rattle.hp_groebner.specs.PairQueues.{IsPair, bucket, nth, pair_degree}
-use Rattle.hp_groebner.specs.Runs.{HaveDone, IsGeneratorDone, IsPairDone, IsPushed, IsRunning, Job, State, held, module_of, pair_at, submodule}
+use Rattle.hp_groebner.specs.Runs.{AreReducedAt, HaveDone, IsGeneratorDone, IsPairDone, IsPushed, IsRunning, Job, State, held, module_of, pair_at, submodule}
 use Rattle.hp_groebner.proofs.PairDegrees.{lcm-higher}
 use Rattle.hp_groebner.proofs.RunMembers.{AreKnown, lead-monomial, lead-within, least-below, lead-degree, longer-done}
+use Rattle.hp_groebner.proofs.KeptTails.{longer-tails}
 use Rattle.hp_groebner.proofs.RunPairs.{all-settled, low-pair, pair-within}
 
 pub nth-earlier : (ts : List Term) (t : Term) (i : ℕ) → i < length ts → nth (ts ++ t ∷ []) i ≡ nth ts i
@@ -198,4 +199,6 @@ module _ {F : Type 0} {J : Job F} {s : State F} {d g p : ℕ} (r : IsRunning J s
           ]) in
           subst C (sym x.longer.leads) c q a b;
       passed = r.passed;
+      tails = subst (λ w. AreReducedAt w (λ i. degree (lead_at w i).mono < d)) (sym x.held_is)
+          (longer-tails r.done d t t-monomial t-degree v r.tails);
     }

@@ -17,7 +17,7 @@ use Rattle.hp_module.proofs.DividingTerms.{divides-itself}
 use Rattle.hp_module.proofs.TruncatedBases.{IsBasisUpTo, least_leads_up_to}
 use Rattle.hp_groebner.specs.LimitRules.{AreDifferentLeastLeads, HasTooHighPair, HasTooManyPairs, IsPassed, NeverStops, StopsForDegree, most_degree}
 use Rattle.hp_groebner.specs.PairQueues.{HasHighPair, IsPair, bucket, nth, pair_degree}
-use Rattle.hp_groebner.specs.Runs.{HaveDone, IsRun, IsRunning, Job, State, generator_degree, held, submodule}
+use Rattle.hp_groebner.specs.Runs.{AreReducedAt, HaveDone, IsRun, IsRunning, Job, State, generator_degree, held, submodule}
 use Rattle.hp_groebner.proofs.PairCounts.{none-twice, pairs-fewer}
 use Rattle.hp_groebner.proofs.RunMembers.{AreKnown, by_place, lead-monomial, lead-up_to, plain, redone}
 use Rattle.hp_groebner.proofs.RunPairs.{all-settled, low-pair, pair-within}
@@ -105,7 +105,7 @@ module _ {F : Type 0} {J : Job F} (s : State F) {top : ℕ} {P : ℕ → Type 0}
 
 module _ {F : Type 0} {J : Job F} {s : State F} {d : ℕ}
     (r : IsRunning J s d (length J.gens) (length (bucket s.queue d)) (d + 1)) (few : s.queue.pairs ≤ J.limits.pairs) where
-  known : AreKnown r.done d
+  pub known : AreKnown r.done d
   known = record {
     generated = λ i b z. r.done.generators i b (elim (cases_lt (generator_degree J i) d) [
       | inl x ↦ inl x
@@ -136,8 +136,8 @@ module _ {F : Type 0} {J : Job F} {s : State F} {d : ℕ}
   degree-stop t = (d, (inr (has-high s r.done d are (r.queue.high.0 t)), r.passed), not-many s r.done d are few_pairs)
 
   -- and where there is none the next degree is begun.
-  pub next-degree : ¬ (IsTrue s.queue.high) → IsRun J s (d + 1) 0 0 (d + 1)
-  next-degree f =
+  pub next-degree : ¬ (IsTrue s.queue.high) → AreReducedAt (held s) (λ i. i < length s.members) → IsRun J s (d + 1) 0 0 (d + 1)
+  next-degree f tails =
       let low : ¬ (HasHighPair J.limits s.queue.leads) = (λ p. f (r.queue.high.1 p)) in (
         record {
           done = redone r.done (λ i b q. r.done.generators i b (elim q [
@@ -174,6 +174,7 @@ module _ {F : Type 0} {J : Job F} {s : State F} {d : ℕ}
                   | inr high ↦ not-high s r.done d are low high
                 ])
           ];
+          tails = λ i j a b z. tails i j a b a;
         },
         few,
       )

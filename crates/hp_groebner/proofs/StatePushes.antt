@@ -1,8 +1,8 @@
--- A member that is pushed, and what is left of a division, as facts of a run.
-use Rattle.std.specs.Prelude.{◌≡◌, ◌≢◌, ℕ, suc, ◌+◌, ◌<◌, ◌≤◌, List, [], ◌∷◌, ◌++◌, length, All, slice_index_or}
-use Rattle.std.proofs.lemmas.List.{get_or_default}
+-- A member that is pushed, one whose place is taken, and what is left of a division, as facts of a run.
+use Rattle.std.specs.Prelude.{◌≡◌, ◌≢◌, ℕ, suc, ◌+◌, ◌<◌, ◌≤◌, List, [], ◌∷◌, ◌++◌, set, length, All, slice_index_or}
+use Rattle.std.proofs.lemmas.List.{get_or_default, length-map}
 use mathlib.Core.Logic.{inl, inr}
-use mathlib.Core.Path.{sym, ap, ◌∙◌, subst}
+use mathlib.Core.Path.{refl, sym, ap, ◌∙◌, subst}
 use native.Mathlib.Omega.{arith}
 use Rattle.hp_algebra.specs.Ring.{RingOf, greatest_weight_of}
 use Rattle.hp_mono.specs.declared.term.Term.{Term}
@@ -14,17 +14,19 @@ use Rattle.hp_module.specs.Vectors.{Vector, vector_scale, zero_vector}
 use Rattle.hp_module.specs.FreeModules.{HasDegree, IsFreeModule, IsGraded, IsHomogeneousBy, IsIn, degree_of}
 use Rattle.hp_module.specs.Leads.{AreLed, IsGreatestTerm, WithLeads, lead_at, member_at, no_term}
 use Rattle.hp_module.specs.ElimOrders.{elimination_order}
-use Rattle.hp_module.specs.FallingTerms.{AreDivisors, Divisors, with_leads}
+use Rattle.hp_module.specs.FallingTerms.{AreDivisors, Divisors, vector_of, with_leads}
 use Rattle.hp_module.specs.Divisions.{IsDivided}
 use Rattle.hp_module.proofs.EntryTerms.{terms_each}
 use Rattle.hp_module.proofs.MonicVectors.{constant-all, inverse-value, monic-greatest, monic-vector}
 use Rattle.hp_module.proofs.GreatestTerms.{greatest-at, greatest-degree, greatest-nonzero}
 use Rattle.hp_module.proofs.HeldDivisions.{divisors-led, same-leads}
 use Rattle.hp_module.proofs.LongerBases.{longer, longer-led}
+use Rattle.hp_groebner.specs.BasisEnds.{IsTailReduced}
 use Rattle.hp_groebner.specs.LimitRules.{most_degree}
 use Rattle.hp_groebner.specs.PairQueues.{IsLonger, IsPair, IsQueue, Queue, nth, pair_degree}
-use Rattle.hp_groebner.specs.Runs.{IsJob, IsPushed, IsReduced, IsRun, IsRunning, Job, State, held, module_of}
+use Rattle.hp_groebner.specs.Runs.{IsJob, IsPushed, IsReduced, IsReplaced, IsRun, IsRunning, Job, State, held, module_of}
 use Rattle.hp_groebner.proofs.PairDegrees.{degree-lcm, degree-lcm_back}
+use Rattle.hp_groebner.proofs.ReducedTails.{IsNewMember, new-member}
 use Rattle.hp_groebner.proofs.RunMembers.{comm, laws, lead-monomial, plain}
 use Rattle.hp_groebner.proofs.RunPairs.{pair-within}
 use Rattle.hp_groebner.proofs.RunSteps.{lead-low}
@@ -238,3 +240,46 @@ module _ {F : Type 0} {J : Job F} {s : State F} {d g p : ℕ} (r : IsRunning J s
           let vs = h ∙ ap (λ (z : List (Vector F)). slice_index_or z j v) f ∙ get_or_default s.members j v [] (pair-within s r.done pr).0 in
           let qs = u ∙ (λ k. cofactor (ej k).mono (ei k).mono) in
           subst (λ n. n ≤ max_degree) (sym (λ k. degree (qs k) + greatest_weight_of (poly_ring J.ring) (vs k))) earlier-fits
+
+-- ---- a member whose place is taken
+
+module _ {F : Type 0} {J : Job F} {s : State F} {d g p top : ℕ} (r : IsRun J s d g p top) {i : ℕ} (l : i < length s.members)
+    {v : Vector F} (x : IsTailReduced J s i v) where
+  new : IsNewMember s r.0.done i v
+  new = new-member s r.0.done i l x
+
+  pub replace-width : J.width ≡ length v
+  replace-width = sym new.vector.0
+
+  module _ {D : Divisors F} (e : D ≡ s.divisors) where
+    leads-are : with_leads J.ring D ≡ held s
+    leads-are = ap (with_leads J.ring) e ∙ r.0.divisors_are
+
+    pub replace-place : i < length D.members
+    replace-place =
+        let a = length-map D.members (λ m. vector_of J.ring m.parts) in
+        let b = ap (λ (w : WithLeads F). length w.members) leads-are in
+        omega (arith, a, b, l)
+
+    pub replace-lead : (c : F)
+        × IsGreatestTerm (elimination_order J.split) (member_at (with_leads J.ring D) i) (lead_at (with_leads J.ring D) i) c
+        × IsGreatestTerm (elimination_order J.split) v (lead_at (with_leads J.ring D) i) c
+    replace-lead = (
+      J.ring.one,
+      subst (λ w. IsGreatestTerm (elimination_order J.split) (member_at w i) (lead_at w i) J.ring.one) (sym leads-are) (r.0.done.monic i l),
+      subst (λ w. IsGreatestTerm (elimination_order J.split) v (lead_at w i) J.ring.one) (sym leads-are) new.greatest,
+    )
+
+  pub replaced : {D : Divisors F} {ms : List (Vector F)} → AreDivisors J.ring (elimination_order J.split) J.width D
+      → (with_leads J.ring D).members ≡ set (with_leads J.ring s.divisors).members i v
+      → (with_leads J.ring D).leads ≡ (with_leads J.ring s.divisors).leads → ms ≡ set s.members i v
+      → IsReplaced J s i v (record { divisors = D; members = ms; queue = s.queue })
+  replaced {D} {ms} a m k e =
+      let all = m ∙ ap (λ (w : WithLeads F). set w.members i v) r.0.divisors_are ∙ sym e in
+      let leads = k ∙ ap (λ (w : WithLeads F). w.leads) r.0.divisors_are in
+      record {
+        divisors = a;
+        divisors_are = λ n. record { members = all n; leads = leads n };
+        members = e;
+        queue = refl;
+      }

@@ -38,7 +38,7 @@ pub record IsTailReduced {F : Type 0} (J : Job F) (s : State F) (p : ℕ) (w : V
       (plus_term J.ring (member_at (held s) p) (lead_at (held s) p) (J.ring.neg J.ring.one)) (held s) quotients rest
   pub new_is : w ≡ plus_term J.ring rest (lead_at (held s) p) J.ring.one
 
--- the members at the first k of the places, with reduced tails
-pub record AreTailsReduced {F : Type 0} (J : Job F) (s : State F) (ps : List ℕ) (k : ℕ) (ws : List (Vector F)) : Type 0 where
+-- the members at the first k of the places
+pub record AreMembersAt {F : Type 0} (s : State F) (ps : List ℕ) (k : ℕ) (ws : List (Vector F)) : Type 0 where
   pub many : length ws ≡ k
-  pub each : (i : ℕ) → i < k → IsTailReduced J s (place ps i) (slice_index_or ws i [])
+  pub each : (i : ℕ) → i < k → slice_index_or ws i [] ≡ member_at (held s) (place ps i)

@@ -1,5 +1,5 @@
 -- What a run of the algorithm is given, and what it keeps.
-use Rattle.std.specs.Prelude.{◌≡◌, ◌⊎◌, ⊤, ℕ, ◌+◌, ◌<◌, ◌≤◌, List, [], ◌∷◌, length, replicate, All, slice_index_or}
+use Rattle.std.specs.Prelude.{◌≡◌, ◌≢◌, ◌⊎◌, ⊤, ℕ, ◌+◌, ◌<◌, ◌≤◌, List, [], ◌∷◌, length, replicate, set, All, slice_index_or}
 use Rattle.std.specs.declared.cmp.Ordering.{Ordering}
 use Rattle.hp_algebra.specs.Ring.{RingOf}
 use Rattle.hp_mono.specs.declared.term.Term.{Term}
@@ -91,6 +91,14 @@ held s = record { members = s.members; leads = s.queue.leads }
 abbrev pub pair_at : {F : Type 0} → State F → ℕ → ℕ → ℕ × ℕ
 pair_at s e k = slice_index_or (bucket s.queue e) k (0, 0)
 
+-- no term of member i but its lead is a multiple of lead j
+abbrev pub IsFreeOf : {F : Type 0} → WithLeads F → ℕ → ℕ → Type 0
+IsFreeOf w i j = All (λ a. a.0 ≢ lead_at w i → ¬ (TermDivides (lead_at w j) a.0)) (terms (member_at w i))
+
+-- the members at the places P have no term but their leads that is a multiple of a lead
+abbrev pub AreReducedAt : {F : Type 0} → WithLeads F → (ℕ → Type 0) → Type 0
+AreReducedAt w P = (i j : ℕ) → i < length w.members → j < length w.members → P i → IsFreeOf w i j
+
 -- of a degree below d, or of degree d and before place n
 abbrev pub IsDone : ℕ → ℕ → ℕ → ℕ → Type 0
 IsDone d n e k = (e < d) ⊎ ((e ≡ d) × (k < n))
@@ -118,7 +126,7 @@ abbrev pub IsPairDone : {F : Type 0} → State F → ℕ → ℕ → ℕ → ℕ
 IsPairDone s d n j i = (e : ℕ) × (k : ℕ) × (k < length (bucket s.queue e)) × IsDone d n e k × (pair_at s e k ≡ (j, i))
 
 -- What holds in a run: all of degree below d is done, and of degree d the first g generators and the first p pairs. At no
--- degree below d a limit is passed.
+-- degree below d a limit is passed, and the members of degrees below d have reduced tails.
 pub record IsRunning {F : Type 0} (J : Job F) (s : State F) (d g p top : ℕ) : Type 0 where
   pub done : HaveDone J (held s) top (IsGeneratorDone J d g) (IsPairDone s d p)
   pub divisors : AreDivisors J.ring (elimination_order J.split) J.width s.divisors
@@ -127,6 +135,7 @@ pub record IsRunning {F : Type 0} (J : Job F) (s : State F) (d g p top : ℕ) : 
   pub calm : (j i : ℕ) → IsPair s.queue.leads j i → degree (nth s.queue.leads j).mono < d
       → degree (nth s.queue.leads i).mono < d → pair_degree s.queue.leads j i ≤ J.limits.degree
   pub passed : (e : ℕ) → e < d → ¬ (IsPassed (elimination_order J.split) (submodule J) J.limits e)
+  pub tails : AreReducedAt (held s) (λ i. degree (lead_at (held s) i).mono < d)
 
 -- the same, with no more critical pairs than the limit
 abbrev pub IsRun : {F : Type 0} → Job F → State F → (d g p top : ℕ) → Type 0
@@ -154,6 +163,13 @@ abbrev pub IsOver : {F : Type 0} → Job F → Vector F → State F → State F 
 IsOver J v s s' stops.Pairs = IsReduced J v s s' × (J.limits.pairs < s'.queue.pairs)
 IsOver J v s s' stops.Degree = ⊥
 IsOver J v s s' stops.Memory = ⊤
+
+-- A vector is in the place of a member, and the leads are as before.
+pub record IsReplaced {F : Type 0} (J : Job F) (s : State F) (i : ℕ) (v : Vector F) (s' : State F) : Type 0 where
+  pub divisors : AreDivisors J.ring (elimination_order J.split) J.width s'.divisors
+  pub divisors_are : with_leads J.ring s'.divisors ≡ held s'
+  pub members : s'.members ≡ set s.members i v
+  pub queue : s'.queue ≡ s.queue
 
 -- the stop of the run
 abbrev pub IsRunStop : {F : Type 0} → Job F → Stop → Type 0

@@ -14,7 +14,7 @@ use std::alloc::Global;
 /// lead that has it.
 ///
 /// Errors: `NoMem` where memory is out.
-pub(crate) fn minimal_cofactors(
+pub fn minimal_cofactors(
     alloc: Global,
     leads: &[Term],
     t: &Term,

@@ -10,6 +10,7 @@ ghost use Rattle.hp_groebner.specs.Runs.{HasLeadOfDegree, IsJob, IsRun, IsRunSto
 use crate::limits::Stop;
 use crate::setting::Setting;
 use crate::state::State;
+use crate::tails::reduce_tails;
 use hp_algebra::Field;
 use hp_module::ModVec;
 use std::alloc::Global;
@@ -108,7 +109,7 @@ fn add_pairs<F: Field>(
     Ok(())
 }
 
-/// All of degree d, and then the test of the limits on the least leads up to this degree.
+/// All of degree d, with reduced tails, and then the test of the limits on the least leads up to this degree.
 pub(crate) fn add_degree<F: Field>(
     alloc: Global,
     setting: &Setting,
@@ -123,6 +124,7 @@ pub(crate) fn add_degree<F: Field>(
 {
     add_generators(alloc, setting, gens, state, d)?;
     add_pairs(alloc, setting, gens, state, d)?;
+    reduce_tails(alloc, setting, gens, state, d)?;
     if state.queue().is_high() {
         return Err(Stop::Degree);
     }

@@ -16,4 +16,5 @@ mod tails;
 mod terms_added;
 
 pub use basis::groebner;
+pub use cofactors::minimal_cofactors;
 pub use limits::{Limits, MOST_DEGREE, MOST_PAIRS, Stop};

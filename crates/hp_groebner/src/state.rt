@@ -1,6 +1,6 @@
 //! The members so far, and the division by them.
 
-ghost use Rattle.std.specs.Prelude.{◌≡◌, ◌≢◌, ◌≤◌, ℕ, ◌+◌, ◌<◌, IfErr, IfOk};
+ghost use Rattle.std.specs.Prelude.{◌≡◌, ◌≢◌, ◌≤◌, ℕ, ◌+◌, ◌<◌, IfErr, IfOk, length};
 ghost use Rattle.hp_algebra.specs.Ring.{greatest_weight_of};
 ghost use Rattle.hp_mono.specs.Monomials.{degree, max_degree};
 ghost use Rattle.hp_poly.specs.Polynomials.{constant, poly_ring};
@@ -10,9 +10,10 @@ ghost use Rattle.hp_module.specs.FreeModules.{HasDegree, IsIn};
 ghost use Rattle.hp_module.specs.Leads.{IsGreatestTerm};
 ghost use Rattle.hp_module.specs.ElimOrders.{elimination_order};
 ghost use Rattle.hp_module.specs.CriticalPairs.{pair_vector};
+ghost use Rattle.hp_groebner.specs.BasisEnds.{IsTailReduced};
 ghost use Rattle.hp_groebner.specs.LimitRules.{most_degree};
 ghost use Rattle.hp_groebner.specs.PairQueues.{IsPair, pair_degree};
-ghost use Rattle.hp_groebner.specs.Runs.{IsJob, IsOver, IsPushed, IsReduced, IsRun, held, job, module_of};
+ghost use Rattle.hp_groebner.specs.Runs.{IsJob, IsOver, IsPushed, IsReduced, IsReplaced, IsRun, held, job, module_of};
 
 use crate::limits::Stop;
 use crate::queue::Queue;
@@ -146,6 +147,27 @@ impl<F: Field> State<F> {
         Ok(())
     }
 
+    /// Puts a member with a reduced tail in its place.
+    ///
+    /// Errors: `NoMem` where memory is out.
+    pub(crate) fn replace(
+        &mut self,
+        alloc: Global,
+        setting: &Setting,
+        gens: &[ModVec<F>],
+        place: usize,
+        v: ModVec<F>,
+    ) -> Result<(), NoMem>
+        requires run { (d : ℕ) × (g : ℕ) × (p : ℕ) × (top : ℕ) × IsRun (job F.ring F.inverse setting.now gens.now) self.old d g p top }
+        requires within { place < length self.old.members }
+        requires reduced { IsTailReduced (job F.ring F.inverse setting.now gens.now) self.old place v }
+        ensures { IfOk result (λ _. IsReplaced (job F.ring F.inverse setting.now gens.now) self.old place v self.new) }
+    {
+        self.divisors.replace(alloc, &setting.order, place, &v)?;
+        self.members[place] = v;
+        Ok(())
+    }
+
     /// What is left of a homogeneous vector of degree d when it is divided by the members.
     ///
     /// Errors: `NoMem` where memory is out.
@@ -163,10 +185,8 @@ impl<F: Field> State<F> {
         requires homogeneous { HasDegree (module_of (job F.ring F.inverse setting.now gens.now)) d v.now }
         ensures { IfOk result (λ r. (qs : Vector F) × IsDivided (module_of (job F.ring F.inverse setting.now gens.now)) v.now (held self.now) qs r) }
     {
-        let answer = self
-            .divisors
-            .divide(alloc, &setting.order, &setting.grading, v)?;
-        Ok(answer.1)
+        self.divisors
+            .remainder(alloc, &setting.order, &setting.grading, v)
     }
 
     /// Divides a homogeneous vector of degree d by the members. What is left of it, made monic, becomes a member.

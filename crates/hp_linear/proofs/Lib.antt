@@ -4,6 +4,7 @@ pub mod Dimension
 pub mod EchelonForms
 pub mod EchelonLaws
 pub mod Existence
+pub mod GrowingForms
 pub mod InverseMatrices
 pub mod Kernels
 pub mod PointCounts

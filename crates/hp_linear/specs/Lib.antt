@@ -1,3 +1,4 @@
 pub mod Echelon
+pub mod GrowingForms
 pub mod Matrices
 pub mod Spaces

@@ -4,9 +4,11 @@
 #![tactic(auto)]
 
 mod echelon;
+mod growing;
 mod kernel;
 mod matrix;
 mod pivot;
 mod row;
 
+pub use growing::GrowingForm;
 pub use matrix::Matrix;

@@ -73,7 +73,7 @@ impl<F: Field> Matrix<F> {
     }
 
     /// The entries of row `k`, counted from 0.
-    fn row(&self, k: usize) -> &[F]
+    pub fn row(&self, k: usize) -> &[F]
         requires { k < length self.now.rows }
         ensures value { result.now ≡ slice_index_or self.now.rows k [] }
         ensures row { IsRow F.ring self.now.cols result.now }

@@ -1,11 +1,12 @@
 -- Lists of members to divide by: one member more, the search for a divisor, and a multiple of a member that is taken away.
-use Rattle.std.specs.Prelude.{◌≡◌, ◌≢◌, ◌⊎◌, ℕ, zero, suc, ◌+◌, ◌-◌, ◌<◌, ◌≤◌, List, [], ◌∷◌, ◌++◌, set, length, All, Contains, Some, slice_get}
+use Rattle.std.specs.Prelude.{◌≡◌, ◌≢◌, ◌⊎◌, ℕ, zero, suc, ◌+◌, ◌-◌, ◌<◌, ◌≤◌, List, [], ◌∷◌, ◌++◌, set, length, All, Contains, Some, slice_get, unwrap_or}
 use Rattle.std.specs.declared.cmp.Ordering.{Ordering}
 use Rattle.std.proofs.Common.{get_or}
 use Rattle.std.proofs.lemmas.Bool.{cases_eq}
-use Rattle.std.proofs.lemmas.List.{get_or-map, get_or-set_same, get_or-set_other, get_or-replicate, length-replicate, length-set}
-use Rattle.std.proofs.lemmas.List.Elements.{All-append, All-contains, All-cons, All-map, All-nil, Contains-append_left, Contains-append_right}
+use Rattle.std.proofs.lemmas.List.{get_or-map, map-set, get_or-set_same, get_or-set_other, get_or-replicate, length-replicate, length-set}
+use Rattle.std.proofs.lemmas.List.Elements.{All-append, All-contains, All-cons, All-map, All-nil, All-set, Contains-append_left, Contains-append_right}
 use Rattle.std.proofs.lemmas.Option.{get_or_from_slice_get, slice_get-get_or, slice_get_within}
+use Rattle.std.proofs.Math.Seq.{map-set_same}
 use mathlib.Core.Logic.{inl, inr}
 use mathlib.Core.Path.{refl, sym, ap, ◌∙◌, subst}
 use native.Mathlib.Omega.{arith}
@@ -20,14 +21,17 @@ use Rattle.hp_poly.specs.Degrees.{degree_most}
 use Rattle.hp_module.specs.Vectors.{Vector, vector_plus, vector_scale}
 use Rattle.hp_module.specs.FreeModules.{FreeModule, IsFreeModule, degree_of, plus_term, term_degree}
 use Rattle.hp_module.specs.Leads.{AreLed, IsGreatestTerm, lead_at, member_at, no_term}
-use Rattle.hp_module.specs.Divisions.{HasNoDivisor, IsSubtracted}
+use Rattle.hp_module.specs.Divisions.{HasNoDivisor, IsSubtracted, IsTaken}
 use Rattle.hp_module.specs.FallingTerms.{AreDivisors, AreFalling, Divisor, Divisors, IsDivisor, free_module, no_divisors, vector_of, with_leads, with_member}
 use Rattle.hp_module.proofs.VectorCoefficients.{coefficient-value}
-use Rattle.hp_module.proofs.GreatestTerms.{greatest-at}
+use Rattle.hp_module.proofs.GreatestTerms.{greatest-at, greatest-unique}
 use Rattle.hp_module.proofs.OrderedTerms.{degree-times}
 use Rattle.hp_module.proofs.DividedParts.{keys-back, parts-vector}
 
 module _ {X : Type 0} where
+  Some-same : {x y : X} → Some x ≡ Some y → x ≡ y
+  Some-same {x} {y} e = ap (λ z. unwrap_or z x) e
+
   slice-left : (xs ys : List X) (i : ℕ) (x : X) → slice_get xs i ≡ Some x → slice_get (xs ++ ys) i ≡ Some x
   slice-left [] ys i x e = absurd (omega (arith, slice_get_within [] i x e))
   slice-left (y ∷ xs) ys zero x e = e
@@ -46,6 +50,21 @@ module _ {X : Type 0} where
   slice-last : (xs : List X) (y : X) → slice_get (xs ++ y ∷ []) (length xs) ≡ Some y
   slice-last [] y = refl
   slice-last (z ∷ xs) y = slice-last xs y
+
+  slice-set_at : (xs : List X) (i : ℕ) (y : X) → i < length xs → slice_get (set xs i y) i ≡ Some y
+  slice-set_at [] i y l = absurd (omega (arith, l))
+  slice-set_at (x ∷ xs) zero y l = refl
+  slice-set_at (x ∷ xs) (suc i) y l = slice-set_at xs i y (omega (arith, l))
+
+  slice-set_other : (xs : List X) (i j : ℕ) (y : X) → j ≢ i → slice_get (set xs i y) j ≡ slice_get xs j
+  slice-set_other [] i j y n = refl
+  slice-set_other (x ∷ xs) zero zero y n = absurd (n refl)
+  slice-set_other (x ∷ xs) zero (suc j) y n = refl
+  slice-set_other (x ∷ xs) (suc i) zero y n = refl
+  slice-set_other (x ∷ xs) (suc i) (suc j) y n = slice-set_other xs i j y (λ e. n (ap suc e))
+
+  slice-set_same : (xs : List X) (i : ℕ) (y x : X) → i < length xs → slice_get (set xs i y) i ≡ Some x → y ≡ x
+  slice-set_same xs i y x l e = Some-same (sym (slice-set_at xs i y l) ∙ e)
 
 module _ {F : Type 0} (ring : RingOf F) (cmp : Term → Term → Ordering) (width : ℕ) where
   -- no member
@@ -103,6 +122,45 @@ module _ {F : Type 0} (ring : RingOf F) (cmp : Term → Term → Ordering) (widt
             ];
       }
 
+  -- a member's place is taken by one with the same lead
+  pub divisors-replaced : {d : Divisors F} {m n : Divisor F} {place : ℕ} → AreDivisors ring cmp width d → place < length d.members
+      → get_or d.members place m ≡ m → IsDivisor ring cmp width n → n.lead ≡ m.lead
+      → AreDivisors ring cmp width (record { members = set d.members place n; listed = d.listed })
+  divisors-replaced {d} {m} {n} {place} a l here h same =
+      let old : slice_get d.members place ≡ Some m = slice_get-get_or d.members place m l ∙ ap Some here in
+      record {
+        members = All-set (IsDivisor ring cmp width) d.members place n h a.members;
+        long = a.long;
+        listed = λ j x f. elim (cases_eq j place) [
+          | inl e ↦
+              let y : x ≡ n = sym (slice-set_same d.members place n x l (subst (λ i. slice_get (set d.members place n) i ≡ Some x) e f)) in
+              let u : x.lead ≡ m.lead = ap (λ z. z.lead) y ∙ same in
+              subst (λ (t : Term). Contains (get_or d.listed (t.comp - 1) []) (t.mono, j)) (sym u)
+              (a.listed j m (subst (λ i. slice_get d.members i ≡ Some m) (sym e) old))
+          | inr o ↦ a.listed j x (sym (slice-set_other d.members place j n o) ∙ f)
+        ];
+        places = λ c b i x w.
+            let k = a.places c b i x w in
+            let u : Monomial × ℕ = get_or (get_or d.listed c []) i x in
+            elim (cases_eq u.1 place) [
+              | inl e ↦
+                  let y : m ≡ k.0 = Some-same (sym old ∙ subst (λ z. slice_get d.members z ≡ Some k.0) e k.1) in
+                  (n, subst (λ z. slice_get (set d.members place n) z ≡ Some n) (sym e) (slice-set_at d.members place n l), same ∙ ap (λ z. z.lead) y ∙ k.2)
+              | inr o ↦ (k.0, slice-set_other d.members place u.1 n o ∙ k.1, k.2)
+            ];
+      }
+
+  -- then the vectors differ at this place, and the leads do not
+  pub replaced-members : (d : Divisors F) (n : Divisor F) (place : ℕ)
+      → (with_leads ring (record { members = set d.members place n; listed = d.listed })).members
+      ≡ set (with_leads ring d).members place (vector_of ring n.parts)
+  replaced-members d n place = map-set (λ (x : Divisor F). vector_of ring x.parts) d.members place n
+
+  pub replaced-leads : (d : Divisors F) (m n : Divisor F) (place : ℕ) → get_or d.members place m ≡ m → n.lead ≡ m.lead
+      → (with_leads ring (record { members = set d.members place n; listed = d.listed })).leads ≡ (with_leads ring d).leads
+  replaced-leads d m n place here same =
+      map-set_same (λ (x : Divisor F). x.lead) d.members place n m (same ∙ sym (ap (λ (x : Divisor F). x.lead) here))
+
   -- the member and the lead at a place
   pub member-at : (d : Divisors F) (i : ℕ) (m : Divisor F) → i < length d.members → get_or d.members i m ≡ m
       → (member_at (with_leads ring d) i ≡ vector_of ring m.parts) × (lead_at (with_leads ring d) i ≡ m.lead)
@@ -147,6 +205,30 @@ module _ {F : Type 0} {ring : RingOf F} {inverse : F → F} (field : IsField rin
   pub lead-nonzero : {rest : Vector F} {t : Term} {c : F} → AreFalling ring cmp width rest
       → IsGreatestTerm cmp (vector_of ring rest) t c → c ≢ ring.zero
   lead-nonzero {rest} {t} {c} f g = (greatest-at L (vector_of ring rest) t c (parts-vector field cmp width order rest f) g).2
+
+  -- a divisor whose vector has the same greatest term as that of a member
+  pub replaced-divisor : {d : Divisors F} → AreDivisors ring cmp width d → (place : ℕ) (m n : Divisor F) → place < length d.members
+      → get_or d.members place m ≡ m → AreFalling ring cmp width n.parts → n.lead ≡ m.lead → n.inverse ≡ m.inverse
+      → (v : Vector F) → vector_of ring n.parts ≡ v
+      → ((c : F) × IsGreatestTerm cmp (member_at (with_leads ring d) place) (lead_at (with_leads ring d) place) c
+      × IsGreatestTerm cmp v (lead_at (with_leads ring d) place) c)
+      → IsDivisor ring cmp width n
+  replaced-divisor {d} a place m n l here f same_lead same_inverse v value x =
+      let D : IsDivisor ring cmp width m = subst (IsDivisor ring cmp width) here (a.members place m l) in
+      let at = member-at ring cmp width d place m l here in
+      let old : IsGreatestTerm cmp (vector_of ring m.parts) m.lead x.0 =
+      subst (λ t. IsGreatestTerm cmp (vector_of ring m.parts) t x.0) at.1
+      (subst (λ w. IsGreatestTerm cmp w (lead_at (with_leads ring d) place) x.0) at.0 x.1) in
+      let first : D.first ≡ x.0 =
+      (greatest-unique L (vector_of ring m.parts) m.lead m.lead D.first x.0 (parts-vector field cmp width order m.parts D.falling) D.greatest old).1 in
+      record {
+        falling = f;
+        first = x.0;
+        greatest = subst (λ t. IsGreatestTerm cmp (vector_of ring n.parts) t x.0) (sym same_lead)
+            (subst (λ w. IsGreatestTerm cmp w m.lead x.0) (sym value) (subst (λ t. IsGreatestTerm cmp v t x.0) at.1 x.2));
+        inverse_value = subst ring.IsValue (sym same_inverse) D.inverse_value;
+        inverse_is = ap (λ i. ring.mul i x.0) same_inverse ∙ ap (ring.mul m.inverse) (sym first) ∙ D.inverse_is;
+      }
 
   module _ {d : Divisors F} (a : AreDivisors ring cmp width d) (led : AreLed M (with_leads ring d)) (place : ℕ) (m : Divisor F)
       (l : place < length d.members) (here : get_or d.members place m ≡ m) where
@@ -204,12 +286,11 @@ module _ {F : Type 0} {ring : RingOf F} {inverse : F → F} (field : IsField rin
           sym (field.is_ring.add_zero f factor_value) ∙ ap (ring.add f) (sym z) ∙ field.is_ring.add_neg f factor_value in
           n (sym factor_is ∙ field.commutes f D.first factor_value first_value ∙ ap (ring.mul D.first) f_zero ∙ mul_zero field.is_ring D.first first_value)
 
-      pub subtracted : {rest qs rest' qs' : Vector F} (q : Monomial) → IsMonomial q
+      pub taken : {rest rest' : Vector F} (q : Monomial) → IsMonomial q
           → IsGreatestTerm cmp rest (times q (lead_at (with_leads ring d) place)) c
           → rest' ≡ vector_plus ring rest (vector_scale ring (term_poly ring (ring.neg f) q) (vector_of ring m.parts))
-          → qs' ≡ plus_term ring qs (record { mono = q; comp = place + 1 }) f
-          → IsSubtracted M (with_leads ring d) place (times q (lead_at (with_leads ring d) place)) rest qs rest' qs'
-      subtracted {rest} {qs} {rest'} {qs'} q iq top rest_is qs_is = record {
+          → IsTaken M (with_leads ring d) place (times q (lead_at (with_leads ring d) place)) rest rest'
+      taken {rest} {rest'} q iq top rest_is = record {
         mono = q;
         is_mono = iq;
         is_lead = refl;
@@ -222,5 +303,26 @@ module _ {F : Type 0} {ring : RingOf F} {inverse : F → F} (field : IsField rin
         factor_value = factor_value;
         factor_is = factor_is;
         rest_is = rest_is ∙ ap (λ v. vector_plus ring rest (vector_scale ring (term_poly ring (ring.neg f) q) v)) (sym at.0);
-        quotients_are = qs_is;
       }
+
+      pub subtracted : {rest qs rest' qs' : Vector F} (q : Monomial) → IsMonomial q
+          → IsGreatestTerm cmp rest (times q (lead_at (with_leads ring d) place)) c
+          → rest' ≡ vector_plus ring rest (vector_scale ring (term_poly ring (ring.neg f) q) (vector_of ring m.parts))
+          → qs' ≡ plus_term ring qs (record { mono = q; comp = place + 1 }) f
+          → IsSubtracted M (with_leads ring d) place (times q (lead_at (with_leads ring d) place)) rest qs rest' qs'
+      unfolding D taken
+      subtracted {rest} {qs} {rest'} {qs'} q iq top rest_is qs_is =
+          let x = taken q iq top rest_is in record {
+            mono = q;
+            is_mono = iq;
+            is_lead = refl;
+            first = c;
+            rest_first = top;
+            member_first = D.first;
+            member_lead = x.member_lead;
+            factor = f;
+            factor_value = factor_value;
+            factor_is = factor_is;
+            rest_is = x.rest_is;
+            quotients_are = qs_is;
+          }

@@ -11,7 +11,8 @@ use Rattle.hp_algebra.proofs.Rings.{mul_zero}
 use Rattle.hp_sums.specs.FiniteSums.{plus}
 use Rattle.hp_sums.proofs.Collected.{sum-values}
 use Rattle.hp_poly.specs.PolyRing.{poly_is_ring, poly_of-IsPoly, term_poly-IsPoly}
-use Rattle.hp_module.proofs.ComponentOrders.{component-same, component-total, component_setting}
+use Rattle.hp_module.specs.ComponentLaws.{component-same, component-total}
+use Rattle.hp_module.proofs.ComponentOrders.{component_setting}
 use Rattle.hp_module.proofs.CollectedParts.{multiple-values, poly_of-multiple, poly_of-plus}
 use Rattle.std.proofs.lemmas.Bool.{cases_eq, cases_lt}
 use Rattle.std.specs.declared.cmp.Ordering.{Ordering}

@@ -4,6 +4,7 @@ pub mod ComponentOrders
 pub mod Criterion
 pub mod DividedParts
 pub mod DividingTerms
+pub mod DivisionExistence
 pub mod DivisionForms
 pub mod DivisionSteps
 pub mod DivisorLists
@@ -17,6 +18,7 @@ pub mod GroebnerBases
 pub mod GroebnerLaw
 pub mod HeldDivisions
 pub mod HeldParts
+pub mod HeldRemainders
 pub mod HomogeneousParts
 pub mod InducedOrder
 pub mod KeptVectors
@@ -31,5 +33,6 @@ pub mod Schreyer
 pub mod ShiftedTerms
 pub mod Symbols
 pub mod TruncatedBases
+pub mod TruncatedRemainders
 pub mod VectorCoefficients
 pub mod VectorSums

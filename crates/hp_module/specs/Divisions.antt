@@ -77,6 +77,21 @@ module _ {F : Type 0} (M : FreeModule F) where
         ≡ vector_plus ring rest (vector_scale ring (term_poly ring (ring.neg factor) mono) (member_at s j))
     pub quotients_are : qs' ≡ plus_term ring qs (record { mono = mono; comp = j + 1 }) factor
 
+  -- The same of the rest alone, where no quotients are kept.
+  pub record IsTaken (s : WithLeads F) (j : ℕ) (t : Term) (rest rest' : Vector F) : Type 0 where
+    pub mono : Monomial
+    pub is_mono : IsMonomial mono
+    pub is_lead : times mono (lead_at s j) ≡ t
+    pub first : F
+    pub rest_first : IsGreatestTerm cmp rest t first
+    pub member_first : F
+    pub member_lead : IsGreatestTerm cmp (member_at s j) (lead_at s j) member_first
+    pub factor : F
+    pub factor_value : ring.IsValue factor
+    pub factor_is : ring.mul factor member_first ≡ first
+    pub rest_is : rest'
+        ≡ vector_plus ring rest (vector_scale ring (term_poly ring (ring.neg factor) mono) (member_at s j))
+
   -- The lead of the rest goes to the remainder.
   pub record IsMoved (t : Term) (rest out rest' out' : Vector F) : Type 0 where
     pub first : F

@@ -1,3 +1,4 @@
+pub mod ComponentLaws
 pub mod CriticalPairs
 pub mod Derivations
 pub mod Divisions

@@ -1,13 +1,13 @@
 //! Vectors to divide by.
 
-ghost use Rattle.std.specs.Prelude.{◌≡◌, ◌≤◌, ◌<◌, ◌++◌, ℕ, [], ◌∷◌, All, IfOk, MatchOption, length};
+ghost use Rattle.std.specs.Prelude.{◌≡◌, ◌≤◌, ◌<◌, ◌++◌, ℕ, [], ◌∷◌, All, IfOk, MatchOption, length, set};
 ghost use Rattle.hp_sums.specs.FiniteSums.{HasValues};
 ghost use Rattle.hp_mono.specs.Monomials.{max_degree};
 ghost use Rattle.hp_mono.specs.TermOrders.{IsTermWithin, times};
-ghost use Rattle.hp_module.specs.Vectors.{zero_vector};
+ghost use Rattle.hp_module.specs.Vectors.{Vector, zero_vector};
 ghost use Rattle.hp_module.specs.FreeModules.{IsGraded, term_degree};
-ghost use Rattle.hp_module.specs.Leads.{AreLed, IsGreatestTerm, lead_at};
-ghost use Rattle.hp_module.specs.Divisions.{HasNoDivisor, IsDivided, IsSubtracted};
+ghost use Rattle.hp_module.specs.Leads.{AreLed, IsGreatestTerm, lead_at, member_at};
+ghost use Rattle.hp_module.specs.Divisions.{HasNoDivisor, IsDivided, IsSubtracted, IsTaken};
 ghost use Rattle.hp_module.specs.FallingTerms.{AreDivisors, AreFalling, free_module, no_divisors, vector_of, with_leads, with_member};
 
 use crate::basis::Grading;
@@ -157,6 +157,36 @@ impl<F: Field> Divisors<F> {
         Ok(())
     }
 
+    /// Puts a vector with the same greatest term in the place of a member.
+    ///
+    /// Errors: `NoMem` where memory is out.
+    pub fn replace<O: TermOrder>(
+        &mut self,
+        alloc: Global,
+        order: &O,
+        place: usize,
+        v: &ModVec<F>,
+    ) -> Result<(), NoMem>
+        requires divisors { AreDivisors F.ring (O.order order.now) (O.components order.now) self.old }
+        requires width { O.components order.now ≡ length v.now }
+        requires place { place < length self.old.members }
+        requires same_lead { (c : F) × IsGreatestTerm (O.order order.now) (member_at (with_leads F.ring self.old) place) (lead_at (with_leads F.ring self.old) place) c × IsGreatestTerm (O.order order.now) v.now (lead_at (with_leads F.ring self.old) place) c }
+        ensures divisors { IfOk result (λ _. AreDivisors F.ring (O.order order.now) (O.components order.now) self.new) }
+        ensures members { IfOk result (λ _. (with_leads F.ring self.new).members ≡ set (with_leads F.ring self.old).members place v.now) }
+        ensures leads { IfOk result (λ _. (with_leads F.ring self.new).leads ≡ (with_leads F.ring self.old).leads) }
+    {
+        let _width = order.width();
+        let parts = parts_of(alloc, order, v)?;
+        let lead = self.members[place].lead;
+        let inverse = self.members[place].inverse;
+        self.members[place] = Divisor {
+            lead,
+            inverse,
+            parts,
+        };
+        Ok(())
+    }
+
     /// The place of a member whose lead divides the term, and the quotient.
     fn divisor<O: TermOrder>(&self, order: &O, t: &Term) -> Option<(usize, Mono)>
         requires divisors { AreDivisors F.ring (O.order order.now) (O.components order.now) self.now }
@@ -173,10 +203,10 @@ impl<F: Field> Divisors<F> {
         None
     }
 
-    /// Takes a multiple of a member, whose lead is that of what is left, from what is left.
+    /// Takes a multiple of a member, whose lead is that of what is left, from what is left, and
+    /// adds it to the quotients.
     fn subtract<O: TermOrder>(
         &self,
-        alloc: Global,
         order: &O,
         grading: &Grading,
         place: usize,
@@ -184,6 +214,7 @@ impl<F: Field> Divisors<F> {
         c: F,
         rest: &mut Vec<Terms<F>>,
         quotients: &mut Vec<Terms<F>>,
+        buffer: &mut Vec<(Mono, F)>,
     ) -> Result<(), NoMem>
         requires divisors { AreDivisors F.ring (O.order order.now) (O.components order.now) self.now }
         requires led { AreLed (free_module F.ring F.inverse (O.components order.now) grading.now.shifts (O.order order.now)) (with_leads F.ring self.now) }
@@ -205,8 +236,40 @@ impl<F: Field> Divisors<F> {
         let factor = c.times(member.inverse);
         let negative = factor.negate();
         let parts = member.parts.as_slice();
-        add_multiple(alloc, order, rest, negative, mono, parts)?;
+        add_multiple(order, rest, negative, mono, parts, buffer)?;
         quotients[place].push(mono, factor)?;
+        Ok(())
+    }
+
+    /// Takes a multiple of a member, whose lead is that of what is left, from what is left.
+    fn take<O: TermOrder>(
+        &self,
+        order: &O,
+        grading: &Grading,
+        place: usize,
+        quotient: &Mono,
+        c: F,
+        rest: &mut Vec<Terms<F>>,
+        buffer: &mut Vec<(Mono, F)>,
+    ) -> Result<(), NoMem>
+        requires divisors { AreDivisors F.ring (O.order order.now) (O.components order.now) self.now }
+        requires led { AreLed (free_module F.ring F.inverse (O.components order.now) grading.now.shifts (O.order order.now)) (with_leads F.ring self.now) }
+        requires place { place < length self.now.members }
+        requires rest { AreFalling F.ring (O.order order.now) (O.components order.now) rest.old.items }
+        requires lead { IsGreatestTerm (O.order order.now) (vector_of F.ring rest.old.items) (times quotient.now (lead_at (with_leads F.ring self.now) place)) c }
+        requires degree { term_degree grading.now.shifts (times quotient.now (lead_at (with_leads F.ring self.now) place)) ≤ max_degree }
+        ensures falling { IfOk result (λ _. AreFalling F.ring (O.order order.now) (O.components order.now) rest.new.items) }
+        ensures taken { IfOk result (λ _. IsTaken (free_module F.ring F.inverse (O.components order.now) grading.now.shifts (O.order order.now)) (with_leads F.ring self.now) place (times quotient.now (lead_at (with_leads F.ring self.now) place)) (vector_of F.ring rest.old.items) (vector_of F.ring rest.new.items)) }
+    {
+        let _shifts = grading.shifts.as_slice();
+        let _width = order.width();
+        let mono = *quotient;
+        let _degree = mono.degree();
+        let member = &self.members[place];
+        let factor = c.times(member.inverse);
+        let negative = factor.negate();
+        let parts = member.parts.as_slice();
+        add_multiple(order, rest, negative, mono, parts, buffer)?;
         Ok(())
     }
 
@@ -232,13 +295,13 @@ impl<F: Field> Divisors<F> {
         let members = self.members.as_slice();
         let mut quotients = no_terms(alloc, members.len())?;
         let mut out = no_terms(alloc, width)?;
+        let mut buffer = Vec::new(alloc);
         'steps: while let Some((t, c)) = lead_of(order, rest.as_slice()) {
             match self.divisor(order, &t) {
                 Some(found) => {
                     let place = found.0;
                     let quotient = found.1;
                     self.subtract(
-                        alloc,
                         order,
                         grading,
                         place,
@@ -246,6 +309,7 @@ impl<F: Field> Divisors<F> {
                         c,
                         &mut rest,
                         &mut quotients,
+                        &mut buffer,
                     )?
                 }
                 None => move_lead(&t, c, &mut rest, &mut out)?,
@@ -254,5 +318,40 @@ impl<F: Field> Divisors<F> {
         let remainder = polynomials(alloc, out.as_slice())?;
         let quotients = polynomials(alloc, quotients.as_slice())?;
         Ok((quotients, ModVec::new(remainder)))
+    }
+
+    /// The remainder of a division, of a homogeneous vector by homogeneous ones. The quotients are not kept.
+    ///
+    /// Errors: `NoMem` where memory is out.
+    pub fn remainder<O: TermOrder>(
+        &self,
+        alloc: Global,
+        order: &O,
+        grading: &Grading,
+        v: &ModVec<F>,
+    ) -> Result<ModVec<F>, NoMem>
+        requires divisors { AreDivisors F.ring (O.order order.now) (O.components order.now) self.now }
+        requires led { AreLed (free_module F.ring F.inverse (O.components order.now) grading.now.shifts (O.order order.now)) (with_leads F.ring self.now) }
+        requires width { O.components order.now ≡ length v.now }
+        requires homogeneous { (d : ℕ) × (d ≤ max_degree) × IsGraded grading.now.shifts d v.now }
+        ensures { IfOk result (λ r. (qs : Vector F) × IsDivided (free_module F.ring F.inverse (O.components order.now) grading.now.shifts (O.order order.now)) v.now (with_leads F.ring self.now) qs r) }
+    {
+        let _width = order.width();
+        let width = v.width();
+        let mut rest = parts_of(alloc, order, v)?;
+        let mut out = no_terms(alloc, width)?;
+        let mut buffer = Vec::new(alloc);
+        'steps: while let Some((t, c)) = lead_of(order, rest.as_slice()) {
+            match self.divisor(order, &t) {
+                Some(found) => {
+                    let place = found.0;
+                    let quotient = found.1;
+                    self.take(order, grading, place, &quotient, c, &mut rest, &mut buffer)?
+                }
+                None => move_lead(&t, c, &mut rest, &mut out)?,
+            }
+        }
+        let remainder = polynomials(alloc, out.as_slice())?;
+        Ok(ModVec::new(remainder))
     }
 }

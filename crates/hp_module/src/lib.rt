@@ -5,6 +5,7 @@
 #![tactic(auto)]
 
 mod basis;
+mod component;
 mod division;
 mod divisors;
 mod merging;

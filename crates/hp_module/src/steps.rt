@@ -6,20 +6,19 @@ ghost use Rattle.hp_poly.specs.Polynomials.{Poly as PolyOf, poly_degree, term_po
 ghost use Rattle.hp_module.specs.Vectors.{vector_plus, vector_scale};
 ghost use Rattle.hp_module.specs.FallingTerms.{AreFalling, vector_of};
 
-use crate::merging::merged_multiple;
+use crate::merging::merge_multiple;
 use crate::terms::Terms;
 use hp_algebra::{Field, NoMem};
 use hp_mono::{Mono, Term, TermOrder};
-use std::alloc::Global;
 
-/// Adds c m times a vector, given by its terms for each component, to what is left.
+/// Adds c m times a vector, given by its terms for each component, to what is left. The buffer is room for the sums.
 pub(crate) fn add_multiple<F: Field, O: TermOrder>(
-    alloc: Global,
     order: &O,
     rest: &mut Vec<Terms<F>>,
     c: F,
     m: Mono,
     parts: &[Terms<F>],
+    buffer: &mut Vec<(Mono, F)>,
 ) -> Result<(), NoMem>
     requires rest { AreFalling F.ring (O.order order.now) (O.components order.now) rest.old.items }
     requires parts { AreFalling F.ring (O.order order.now) (O.components order.now) parts.now }
@@ -34,8 +33,8 @@ pub(crate) fn add_multiple<F: Field, O: TermOrder>(
     for k in 0..parts.len() {
         let part = parts[k].as_slice();
         if !part.is_empty() {
-            let sum = merged_multiple(alloc, order, k + 1, rest[k].as_slice(), c, m, part)?;
-            rest[k] = Terms::of(sum);
+            merge_multiple(order, k + 1, rest[k].as_slice(), c, m, part, buffer)?;
+            rest[k].exchange(buffer);
         }
     }
     Ok(())

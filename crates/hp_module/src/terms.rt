@@ -6,6 +6,7 @@ use hp_algebra::{Field, NoMem};
 use hp_mono::Mono;
 use std::alloc::Global;
 use std::marker::Model;
+use std::mem;
 
 /// A list of terms. Terms before the start are gone.
 #[derive(Drop)]
@@ -45,6 +46,14 @@ impl<F: Field> Terms<F> {
         ensures { result.now ≡ self.now }
     {
         &self.terms.as_slice()[self.start..]
+    }
+
+    /// Takes the terms of a list, which gets those that it had itself, also the ones that are gone.
+    pub(crate) fn exchange(&mut self, terms: &mut Vec<(Mono, F)>)
+        ensures { self.new ≡ terms.old.items }
+    {
+        mem::swap(&mut self.terms, terms);
+        self.start = 0;
     }
 
     /// Loses the first term.

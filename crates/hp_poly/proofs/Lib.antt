@@ -2,5 +2,11 @@ pub mod Evaluation
 pub mod ExactDivision
 pub mod FactorLaws
 pub mod FactorSteps
+pub mod FormTerms
 pub mod LinearForms
+pub mod OntoMaps
+pub mod SubstitutedForms
+pub mod SubstitutedTerms
+pub mod SubstitutionSteps
+pub mod Substitutions
 pub mod TermMultiples

@@ -1,26 +1,26 @@
 -- A polynomial times one term is the list of the products in the same order; products by sums of multiples.
-use Rattle.std.specs.Prelude.{◌≡◌, ◌≢◌, ◌↔◌, ℕ, zero, suc, min, Bool, true, false, cond, IsTrue, List, [], ◌∷◌, map, flat_map, length, drop, All, Some}
+use Rattle.std.specs.Prelude.{◌≡◌, ◌≢◌, ◌↔◌, ◌+◌, ◌≤◌, ℕ, zero, suc, min, Bool, cond, IsTrue, List, [], ◌∷◌, map, flat_map, length, drop, All, Some}
 use Rattle.std.specs.declared.cmp.Ordering.TheVariants.{Less, Greater}
 use Rattle.std.specs.Option.{unwrap_or}
 use Rattle.std.specs.Ordering.{is_eq}
 use Rattle.std.specs.FinMap.Entries.{find}
 use Rattle.std.proofs.Common.{append-nil}
-use Rattle.std.proofs.lemmas.List.Elements.{All-cons, All-head, All-tail, All-map}
+use Rattle.std.proofs.lemmas.List.Elements.{All-cons, All-head, All-nil, All-tail, All-map}
 use mathlib.Core.Logic.{inl, inr}
 use mathlib.Core.Path.{refl, sym, ap, ◌∙◌, subst}
 use native.Mathlib.Omega.{arith}
 use Rattle.hp_algebra.specs.Ring.{RingOf, IsField}
 use Rattle.hp_algebra.proofs.Rings.{field-domain, neg_mul}
-use Rattle.hp_mono.specs.Monomials.{Monomial, IsMonomial, product, degree, grevlex}
+use Rattle.hp_mono.specs.Monomials.{Monomial, IsMonomial, product, degree, grevlex, max_degree}
 use Rattle.hp_mono.proofs.MonomialLaws.{product-monomial}
 use Rattle.hp_mono.proofs.GrevlexLaws.{grevlex_product}
 use Rattle.hp_sums.proofs.SumSetting.{SumSetting}
-use Rattle.hp_sums.proofs.Collected.{collect-sum, sum-after, sum-tail}
+use Rattle.hp_sums.proofs.Collected.{collect-IsSum, collect-keys, collect-sum, sum-after, sum-tail}
 use Rattle.hp_sums.proofs.SumLaws.{plus_zero, zero_plus}
-use Rattle.hp_sums.proofs.FirstTerms.{cons_sum, find_after, first_value, negated_sum, negative_negated, no_term, one_term, one_term_where}
+use Rattle.hp_sums.proofs.FirstTerms.{cons_sum, find_after, first_value, negated_sum, negative_negated, one_term}
 use Rattle.hp_sums.proofs.Merges.{before_all, no_items}
 use Rattle.hp_poly.specs.Polynomials.{from_greatest, Poly, IsPoly, IsHomogeneous, coefficient_of, monomial_value, multiple, poly_degree, poly_neg, poly_of, poly_plus, poly_times, term_poly}
-use Rattle.hp_poly.specs.PolySetting.{poly_setting}
+use Rattle.hp_poly.specs.PolySetting.{HaveProduct, poly_setting}
 use Rattle.hp_poly.specs.PolyRing.{poly_is_ring, term_poly-IsPoly}
 use Rattle.hp_poly.specs.Degrees.{degree_first}
 
@@ -169,6 +169,22 @@ module _ {F : Type 0} {ring : RingOf F} {inverse : F → F} (field : IsField rin
 
   -- ---- what the answers cite
 
+  -- where the degrees fit, each term has a product with m
+  pub each_product : (m : Monomial) (p : Poly F) → IsMonomial m → All (λ t. IsMonomial t.0) p
+      → degree m + poly_degree ring p ≤ max_degree → All (λ t. HaveProduct m t.0) p
+  each_product m [] i h d = All-nil (λ (u : Monomial × F). HaveProduct m u.0)
+  each_product m (t ∷ p) i h d =
+      All-cons (λ (u : Monomial × F). HaveProduct m u.0) t p
+      (record { left = i; right = All-head (λ (u : Monomial × F). IsMonomial u.0) t p h; degrees = omega (arith, d) })
+      (each_product m p i (All-tail (λ (u : Monomial × F). IsMonomial u.0) t p h) (omega (arith, d)))
+
+  -- the sum of terms with monomials is a polynomial
+  pub collected_poly : (ts : List (Monomial × F)) {p : Poly F} → All (λ t. ring.IsValue t.1) ts → All (λ t. IsMonomial t.0) ts
+      → p ≡ poly_of ring ts → IsPoly ring p
+  collected_poly ts v h e =
+      subst (IsPoly ring) (sym e)
+      (record { is_sum = collect-IsSum setting ts v; monomials = collect-keys setting IsMonomial ts h })
+
   -- the sum is a polynomial
   pub plus_poly : {a b p : Poly F} → IsPoly ring a → IsPoly ring b → p ≡ poly_plus ring a b → IsPoly ring p
   plus_poly {a} {b} {p} f g e =
@@ -189,19 +205,6 @@ module _ {F : Type 0} {ring : RingOf F} {inverse : F → F} (field : IsField rin
 
   pub negatives_value : {p q : Poly F} → IsPoly ring p → q ≡ map (λ t. (t.0, ring.neg t.1)) p → q ≡ poly_neg ring p
   negatives_value {p} {q} f e = e ∙ sym (negative_negated setting p f.is_sum)
-
-  -- one term, or nothing where its coefficient is zero
-  pub single_value : {m : Monomial} {c : F} {p : Poly F} → ring.IsValue c → ring.is_zero c ≡ false → p ≡ (m, c) ∷ []
-      → p ≡ term_poly ring c m
-  single_value {m} {c} {p} v z e = e ∙ sym (one_term_where setting m c v z)
-
-  pub single_none : (m : Monomial) {c : F} {p : Poly F} → ring.IsValue c → ring.is_zero c ≡ true → p ≡ []
-      → p ≡ term_poly ring c m
-  single_none m {c} {p} v z e = e ∙ sym (no_term setting m c v z)
-
-  pub single_poly : (m : Monomial) {c : F} {p : Poly F} → ring.IsValue c → IsMonomial m → p ≡ term_poly ring c m
-      → IsPoly ring p
-  single_poly m {c} {p} v i e = subst (IsPoly ring) (sym e) (term_poly-IsPoly field.is_ring field.commutes c m v i)
 
   -- a multiple is taken away
   pub minus_value : {p a a' b b0 b' : Poly F} {c d : F} (m : Monomial)

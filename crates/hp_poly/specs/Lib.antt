@@ -4,3 +4,4 @@ pub mod PolyDomain
 pub mod PolyRing
 pub mod PolySetting
 pub mod Polynomials
+pub mod Substitutions

@@ -5,7 +5,9 @@
 #![tactic(auto)]
 
 mod division;
+mod order;
 mod poly;
+mod substitution;
 mod terms;
 mod value;
 

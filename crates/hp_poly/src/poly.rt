@@ -1,21 +1,24 @@
 //! Polynomials over a field.
 
-ghost use Rattle.std.specs.Prelude.{◌≡◌, ◌≢◌, ◌↔◌, ℕ, ◌+◌, ◌≤◌, [], length, slice_get, IfOk, IfSome, IfNone, IsNone, IsTrue};
+ghost use Rattle.std.specs.Prelude.{◌≡◌, ◌≢◌, ◌↔◌, ℕ, ◌+◌, ◌≤◌, [], All, length, slice_get, IfOk, IfSome, IfNone, IsNone, IsTrue};
 ghost use Rattle.hp_mono.specs.Monomials.{degree, max_degree, vars};
 ghost use Rattle.hp_poly.specs.Polynomials.{IsPoly, IsHomogeneous, coefficient_of, form_power, linear_form, poly_of, poly_plus, poly_times, poly_neg, poly_degree, poly_ring, poly_value, term_poly};
 ghost use Rattle.hp_poly.specs.Factors.{IsFactor};
 ghost use Rattle.hp_poly.specs.PolyRing.{poly_is_ring, poly_commutes};
 ghost use Rattle.hp_poly.specs.PolyDomain.{poly_is_domain};
 ghost use Rattle.hp_poly.specs.Degrees.{poly_weights};
+ghost use Rattle.hp_poly.specs.Substitutions.{substituted};
 
 use crate::division::divided_by_power;
+use crate::order::FromGreatest;
+use crate::substitution::substituted_terms;
 use crate::terms::{
-    coefficient, collected, have_degree, merged, merged_multiple, multiplied, negatives,
-    same_terms, terms_of_form,
+    coefficient, collected, have_degree, merged, merged_multiple, multiplied, terms_of_form,
 };
 use crate::value::terms_value;
 use hp_algebra::{CommRing, Domain, Field, NoMem, Ring};
 use hp_mono::{MAX_DEGREE, Mono};
+use hp_sums::{is_sum, negated, same_terms};
 use std::alloc::Global;
 use std::marker::Model;
 
@@ -42,6 +45,9 @@ impl<F: Field> Poly<F> {
     pub fn from_terms(alloc: Global, terms: Vec<(Mono, F)>) -> Result<Poly<F>, NoMem>
         ensures { IfOk result (λ r. r ≡ poly_of F.ring terms.items) }
     {
+        if is_sum(&FromGreatest, terms.as_slice()) {
+            return Ok(Poly { terms });
+        }
         Ok(Poly {
             terms: collected(alloc, terms.as_slice())?,
         })
@@ -126,6 +132,17 @@ impl<F: Field> Poly<F> {
         ensures answer { F.ring.IsValue result }
     {
         terms_value(point, self.terms.as_slice())
+    }
+
+    /// The polynomial with the polynomials of the list, of degrees of at most 1, in place of x_1, x_2, ..
+    ///
+    /// Errors: `NoMem` where memory is out.
+    pub fn substituted(&self, alloc: Global, xs: &[Poly<F>]) -> Result<Poly<F>, NoMem>
+        requires { All (λ x. poly_degree F.ring x ≤ 1) xs.now }
+        ensures { IfOk result (λ r. r ≡ substituted F.ring xs.now self.now) }
+    {
+        let terms = substituted_terms(alloc, self.terms(), xs)?;
+        Ok(Poly { terms })
     }
 
     /// The quotient by a power of a form with at most `VARS` coefficients, and none where that is no factor. Where the
@@ -229,7 +246,7 @@ impl<F: Field> Ring for Poly<F> {
 
     fn neg(&self, alloc: Global) -> Result<Self, NoMem> {
         Ok(Poly {
-            terms: negatives(alloc, self.terms.as_slice())?,
+            terms: negated(alloc, self.terms.as_slice())?,
         })
     }
 
@@ -244,7 +261,7 @@ impl<F: Field> Ring for Poly<F> {
     }
 
     fn equal(&self, other: &Self) -> bool {
-        same_terms(self.terms.as_slice(), other.terms.as_slice())
+        same_terms(&FromGreatest, self.terms.as_slice(), other.terms.as_slice())
     }
 
     fn weight(&self) -> u32 {

@@ -10,7 +10,7 @@ use crate::multiplicities::multiplicities;
 use crate::stop::Stop;
 use hp_algebra::{Field, FiniteField, List, NoMem};
 use hp_arr::Arr;
-use hp_der::{der_basis, min_gens};
+use hp_der::{Derivations, der_basis};
 use hp_groebner::{Limits, Stop as BasisStop};
 use hp_module::ModVec;
 use hp_mono::Mono;
@@ -53,9 +53,9 @@ pub(crate) fn der<K: FiniteField>(
     ensures stop { IfErr result (StopsBy (multiplicities_refusal arr.now row.now)) }
 {
     let m = multiplicities(alloc, arr, row)?;
-    match der_basis(alloc, arr, m.as_slice(), limits) {
+    match Derivations::new(alloc, arr, m.as_slice(), limits) {
         Ok(basis) => {
-            let kept = min_gens(alloc, &basis)?;
+            let kept = basis.generators(alloc)?;
             Ok(Answer::Der(entries_of(alloc, kept.as_slice())?))
         }
         Err(stop) => Ok(stopped(stop, AskWord::Der)?),

@@ -18,7 +18,7 @@ use crate::multiplicities::multiplicities;
 use crate::stop::Stop;
 use hp_algebra::{FiniteField, NoMem};
 use hp_arr::Arr;
-use hp_der::{der_basis, min_gens};
+use hp_der::Derivations;
 use hp_groebner::Limits;
 use hp_minres::minimise;
 use hp_module::Basis;
@@ -43,7 +43,7 @@ pub(crate) fn resolve<K: FiniteField>(
     ensures stop { IfErr result (StopsBy (multiplicities_refusal arr.now row.now)) }
 {
     let m = multiplicities(alloc, arr, row)?;
-    match der_basis(alloc, arr, m.as_slice(), limits) {
+    match Derivations::new(alloc, arr, m.as_slice(), limits) {
         Ok(basis) => {
             let res = resolution(alloc, arr, m.as_slice(), &basis)?;
             Ok(Answer::Resolve(resolved(alloc, &res)?))
@@ -66,7 +66,7 @@ pub(crate) fn free<K: FiniteField>(
     ensures stop { IfErr result (StopsBy (multiplicities_refusal arr.now row.now)) }
 {
     let m = multiplicities(alloc, arr, row)?;
-    match der_basis(alloc, arr, m.as_slice(), limits) {
+    match Derivations::new(alloc, arr, m.as_slice(), limits) {
         Ok(basis) => Ok(freeness(alloc, arr, m.as_slice(), &basis)?),
         Err(stop) => Ok(stopped(stop, AskWord::Free)?),
     }
@@ -75,6 +75,29 @@ pub(crate) fn free<K: FiniteField>(
 /// A minimal resolution of the minimal generators that the basis of the derivations has. It has one map where they are
 /// as many as the dimension.
 fn resolution<K: FiniteField>(
+    alloc: Global,
+    arr: &Arr<K>,
+    m: &[u32],
+    basis: &Derivations<K>,
+) -> Result<MinRes<K>, NoMem>
+    requires split { basis.now.split ≡ 0 }
+    requires width { basis.now.width ≡ arr.now.dim }
+    requires reduced { IsDerivationBasis K.ring arr.now m.now basis.now.members }
+    requires generates { GeneratesSet K.ring arr.now.dim (IsLogarithmic K.ring arr.now m.now) basis.now.members }
+    requires degrees { HaveDegrees K.ring basis.now.members }
+    ensures minimal { IfOk result (λ r. IsMinimalResolution K.ring r) }
+    ensures kept { IfOk result (λ r. IsKept K.ring arr.now.dim basis.now.members (map_at r.maps 0).rows) }
+{
+    let kept = basis.generators(alloc)?;
+    if kept.len() == arr.dim() as usize {
+        return short_resolution(alloc, arr, m, kept.as_slice());
+    }
+    let whole = basis.basis(alloc)?;
+    framed_resolution(alloc, arr, m, &whole)
+}
+
+/// The same by the frame of the basis.
+fn framed_resolution<K: FiniteField>(
     alloc: Global,
     arr: &Arr<K>,
     m: &[u32],
@@ -88,10 +111,7 @@ fn resolution<K: FiniteField>(
     ensures minimal { IfOk result (λ r. IsMinimalResolution K.ring r) }
     ensures kept { IfOk result (λ r. IsKept K.ring arr.now.dim basis.now.members (map_at r.maps 0).rows) }
 {
-    let kept = min_gens(alloc, basis)?;
-    if kept.len() == arr.dim() as usize {
-        return short_resolution(alloc, arr, m, kept.as_slice());
-    }
+    let _dim = arr.dim();
     let frame = frame(alloc, basis)?;
     minimise(alloc, &frame)
 }
@@ -101,7 +121,7 @@ fn freeness<K: FiniteField>(
     alloc: Global,
     arr: &Arr<K>,
     m: &[u32],
-    basis: &Basis<K>,
+    basis: &Derivations<K>,
 ) -> Result<Answer<K>, NoMem>
     requires each { length m.now ≡ length arr.now.forms }
     requires most { All (λ k. k ≤ most_multiplicity) m.now }
@@ -112,7 +132,7 @@ fn freeness<K: FiniteField>(
     ensures { IfOk result (IsFreenessAnswer K.ring K.numbers arr.now m.now) }
 {
     let _dim = arr.dim();
-    let kept = min_gens(alloc, basis)?;
+    let kept = basis.generators(alloc)?;
     match free_by_generators(alloc, arr, m, kept.as_slice())? {
         FreeAnswer::Free {
             basis,

@@ -3,8 +3,10 @@ pub mod Collected
 pub mod EqualTotals
 pub mod FirstTerms
 pub mod Merges
+pub mod MovedSums
 pub mod Rewriting
 pub mod SumLaws
 pub mod SumSetting
+pub mod SumTests
 pub mod SymbolLeads
 pub mod WeightedSums

@@ -6,7 +6,7 @@ use Rattle.hp_der.proofs.minimal.min_gens.Given as goal
 abbrev pub invariant-loop-start : goal.invariant-loop-start
 invariant-loop-start g l = record {
   within : l.start ≤ length l.basis.members;
-  first : IsFirst l.prepared-inside.leads.items (length l.basis.members) l.start;
+  first : IsFirst l.leads (length l.basis.members) l.start;
   kept : (rest : List (Vector g.row.F.Denot))
       → IsKeptAfter g.F.Ring.ring l.basis.width (take l.start l.basis.members) (drop l.start l.basis.members) rest
       → IsKept g.F.Ring.ring l.basis.width l.basis.members (l.kept.items ++ rest);

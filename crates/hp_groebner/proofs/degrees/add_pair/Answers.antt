@@ -14,7 +14,7 @@ reduce-requires-clause-vector g c =
     let r = c.requires.run in
     let l = c.requires.within in
     let is = pair-read g.F.Ring.ring s c.args.d c.args.k c.queue.ensures c.due.ensures c.in_ok-v.ensures in
-    subst (IsIn (module_of J)) (sym is) (pair-in r.0 (r.0.queue.listed c.args.d c.args.k (0, 0) l).0)
+    subst (IsIn (module_of J)) (sym is) (pair-in s r.0.done (r.0.queue.listed c.args.d c.args.k (0, 0) l).0)
 
 pub reduce-requires-clause-homogeneous : goal.reduce-requires-clause-homogeneous
 reduce-requires-clause-homogeneous g c =
@@ -24,7 +24,7 @@ reduce-requires-clause-homogeneous g c =
     let l = c.requires.within in
     let is = pair-read g.F.Ring.ring s c.args.d c.args.k c.queue.ensures c.due.ensures c.in_ok-v.ensures in
     let q = r.0.queue.listed c.args.d c.args.k (0, 0) l in
-    subst (HasDegree (module_of J) c.args.d) (sym is) (pair-homogeneous r.0 q.0 q.1)
+    subst (HasDegree (module_of J) c.args.d) (sym is) (pair-homogeneous s r.0.done q.0 q.1)
 
 pub returns-clause-run : goal.returns-clause-run
 returns-clause-run g c =

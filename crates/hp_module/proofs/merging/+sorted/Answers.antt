@@ -1,11 +1,13 @@
-use Rattle.std.proofs.Common.{◌≢◌, All, sym, subst, arith}
+use Rattle.std.proofs.Common.{◌≢◌, All, refl, sym, subst, arith}
 use Rattle.std.proofs.lemmas.List.Elements.{All-drop, All-take}
 use Rattle.hp_mono.specs.Monomials.{Monomial, IsMonomial}
 use Rattle.hp_sums.proofs.Collected.{sum-values}
 use Rattle.hp_module.specs.FallingTerms.{IsFalling, component_order}
 use Rattle.hp_module.proofs.CollectedParts.{poly_of-halves}
-use Rattle.hp_module.proofs.ComponentOrders.{component-same, component-total, component_setting, falling-short, terms-values}
+use Rattle.hp_module.specs.ComponentLaws.{component-same, component-total}
+use Rattle.hp_module.proofs.ComponentOrders.{component_setting, falling-short, falling-terms, terms-values}
 use Rattle.hp_module.proofs.merging.+sorted.Goals as goal
+use Rattle.hp_module.proofs.merging.+sorted.Goals.{then-terms-le1-via-then-terms-le1, then-terms-le1-via-else-terms-le1+then-is_sum}
 
 pub returns-then-terms-le1-clause-answer : goal.returns-then-terms-le1-clause-answer
 returns-then-terms-le1-clause-answer g t c =
@@ -13,8 +15,17 @@ returns-then-terms-le1-clause-answer g t c =
     let cmp = g.O.TermOrder.order c.args.order.now in
     let width = g.O.TermOrder.components c.args.order.now in
     let order = g.met.O.TermOrder.lawful c.args.order.now c.width-width.ensures.of in
-    subst (IsFalling g.F.Ring.ring cmp k) (sym c.in_ok-few.ensures.items)
-    (falling-short width cmp order k c.requires.counted c.requires.within g.met.F.Field.field_laws c.args.terms.now (omega (arith, c.if-terms-le1.true)) c.requires.terms)
+    let low = c.requires.counted in
+    let high = c.requires.within in
+    let field = g.met.F.Field.field_laws in
+    let terms = c.args.terms.now in
+    let falling : IsFalling g.F.Ring.ring cmp k terms = elim c.then-terms-le1.branch [
+      | then-terms-le1-via-then-terms-le1 w ↦
+          falling-short width cmp order k low high field terms (omega (arith, w.if-terms-le1.true)) c.requires.terms
+      | then-terms-le1-via-else-terms-le1+then-is_sum w ↦
+          falling-terms width cmp order k low high field terms c.requires.terms (w.if-is_sum.ensures.sum.0 refl)
+    ] in
+    subst (IsFalling g.F.Ring.ring cmp k) (sym c.in_ok-few.ensures.items) falling
 
 pub returns-clause-same : goal.returns-clause-same
 returns-clause-same g t c =

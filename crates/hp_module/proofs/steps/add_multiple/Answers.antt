@@ -8,7 +8,7 @@ use Rattle.std.proofs.lemmas.Bool.{eqb-true}
 use Rattle.hp_module.specs.FallingTerms.{IsFalling, component_order}
 use Rattle.hp_module.proofs.HeldParts.{IsAdding, adding-end, adding-skip, adding-sum}
 use Rattle.hp_module.proofs.steps.add_multiple.Goals as goal
-use Rattle.hp_module.proofs.steps.add_multiple.Goals.{then-not-is_empty+in_ok-sum, else-not-is_empty}
+use Rattle.hp_module.proofs.steps.add_multiple.Goals.{then-not-is_empty+in_ok-merge_multiple, else-not-is_empty}
 
 pub loop-k-init : goal.loop-k-init
 loop-k-init g c = record {
@@ -17,8 +17,8 @@ loop-k-init g c = record {
   kept = λ j h. refl;
 }
 
-pub merged_multiple-requires-clause-right : goal.merged_multiple-requires-clause-right
-merged_multiple-requires-clause-right g c =
+pub merge_multiple-requires-clause-right : goal.merge_multiple-requires-clause-right
+merge_multiple-requires-clause-right g c =
     let ring = g.F.Ring.ring in
     let cmp = g.O.TermOrder.order c.args.order.now in
     let width = g.O.TermOrder.components c.args.order.now in
@@ -31,8 +31,8 @@ merged_multiple-requires-clause-right g c =
     sym (get_or_default parts k c.index-parts-k.result [] (omega (arith, c.loop-k-test.true))) ∙ sym c.index-parts-k.is ∙ sym c.as_slice-part.ensures in
     subst (IsFalling ring cmp (k + 1)) here (c.requires.parts.each k within)
 
-pub merged_multiple-requires-clause-degrees : goal.merged_multiple-requires-clause-degrees
-merged_multiple-requires-clause-degrees g c =
+pub merge_multiple-requires-clause-degrees : goal.merge_multiple-requires-clause-degrees
+merge_multiple-requires-clause-degrees g c =
     let ring = g.F.Ring.ring in
     let cmp = g.O.TermOrder.order c.args.order.now in
     let width = g.O.TermOrder.components c.args.order.now in
@@ -45,8 +45,8 @@ merged_multiple-requires-clause-degrees g c =
     sym (get_or_default parts k c.index-parts-k.result [] (omega (arith, c.loop-k-test.true))) ∙ sym c.index-parts-k.is ∙ sym c.as_slice-part.ensures in
     subst (λ p. degree c.args.m + poly_degree ring p ≤ max_degree) here (c.requires.degrees k within)
 
-pub merged_multiple-requires-clause-left : goal.merged_multiple-requires-clause-left
-merged_multiple-requires-clause-left g c =
+pub merge_multiple-requires-clause-left : goal.merge_multiple-requires-clause-left
+merge_multiple-requires-clause-left g c =
     let ring = g.F.Ring.ring in
     let cmp = g.O.TermOrder.order c.args.order.now in
     let width = g.O.TermOrder.components c.args.order.now in
@@ -76,13 +76,13 @@ loop-k-preserved g c =
     let vc = c.is_nil-zero.ensures.of in
     let im = c.degree-degree.ensures.of.exponents in
     elim c.if-not-is_empty.branch [
-      | then-not-is_empty+in_ok-sum w ↦
+      | then-not-is_empty+in_ok-merge_multiple w ↦
           let left : w.as_slice.result.now ≡ get_or c.loop-k.rest.items k [] =
           w.as_slice.ensures ∙ w.index.ensures ∙ get_or_default c.loop-k.rest.items k w.index.result.now [] inside in
-          let sum = w.of.ensures ∙ w.in_ok-sum.ensures.value
+          let sum = w.exchange.ensures ∙ w.in_ok-merge_multiple.ensures.value
           ∙ (λ i. plus (component_order cmp (k + 1)) ring (left i) (multiple ring c.args.c c.args.m (sym part i))) in
           adding-sum field cmp width order c.requires.parts within vc c.requires.nonzero im c.loop-k.invariant
-          (subst (IsFalling ring cmp (k + 1)) (sym w.of.ensures) w.in_ok-sum.ensures.answer) sum (ap (λ v. v.items) w.rest-is)
+          (subst (IsFalling ring cmp (k + 1)) (sym w.exchange.ensures) w.in_ok-merge_multiple.ensures.answer) sum (ap (λ v. v.items) w.rest-is)
       | else-not-is_empty w ↦
           let none : c.as_slice-part.result.now ≡ [] = no_items c.as_slice-part.result.now (eqb-true (length c.as_slice-part.result.now) 0 (sym (w.if-not-is_empty.ensures))) in
           subst (λ v. IsAdding ring cmp width c.args.c c.args.m c.args.rest.now.items parts (k + 1) v) (sym (ap (λ v. v.items) w.rest-is))

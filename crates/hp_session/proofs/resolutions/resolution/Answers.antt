@@ -1,9 +1,9 @@
+use Rattle.std.proofs.Common.{sym, subst}
 use Rattle.std.proofs.lemmas.Result.{IfOk-weaker}
 use Rattle.hp_complex.specs.Complexes.{map_at}
-use Rattle.hp_minres.specs.Minimised.{HasKeptRows}
 use Rattle.hp_module.specs.Vectors.{IsKept}
-use Rattle.hp_saito.proofs.LogarithmicBases.{logarithmic-in_order, logarithmic-leads, logarithmic-nonzero, logarithmic-some_member}
-use Rattle.hp_session.proofs.KeptResolutions.{kept-minimal, kept-resolution, logarithmic-basis}
+use Rattle.hp_der.specs.BasisSettings.{HaveDegrees}
+use Rattle.hp_session.proofs.KeptResolutions.{kept-minimal, logarithmic-basis}
 use Rattle.hp_session.proofs.resolutions.resolution.Goals as goal
 
 pub short_resolution-requires-clause-generators : goal.short_resolution-requires-clause-generators
@@ -13,34 +13,5 @@ short_resolution-requires-clause-generators g c =
     let kept = c.in_ok-kept.ensures in
     kept-minimal c.in_ok-kept.kept.items c.as_slice.result.now is kept.kept kept.same kept.irredundant c.as_slice.ensures.value
 
-pub frame-requires-clause-some_member : goal.frame-requires-clause-some_member
-frame-requires-clause-some_member g c =
-    let is = logarithmic-basis c.args.basis.now g.met.K.Field.field_laws g.met.K.FiniteField.numbering c.dim.ensures.lawful
-    c.requires.width c.requires.reduced c.requires.generates c.requires.degrees in
-    logarithmic-some_member is
-
-pub frame-requires-clause-leads : goal.frame-requires-clause-leads
-frame-requires-clause-leads g c =
-    let is = logarithmic-basis c.args.basis.now g.met.K.Field.field_laws g.met.K.FiniteField.numbering c.dim.ensures.lawful
-    c.requires.width c.requires.reduced c.requires.generates c.requires.degrees in
-    logarithmic-leads is
-
-pub minimise-requires-clause-order : goal.minimise-requires-clause-order
-minimise-requires-clause-order g c =
-    let is = logarithmic-basis c.args.basis.now g.met.K.Field.field_laws g.met.K.FiniteField.numbering c.dim.ensures.lawful
-    c.requires.width c.requires.reduced c.requires.generates c.requires.degrees in
-    logarithmic-in_order is c.in_ok-frame.frame c.in_ok-frame.ensures.resolution
-
-pub minimise-requires-clause-nonzero : goal.minimise-requires-clause-nonzero
-minimise-requires-clause-nonzero g c =
-    let is = logarithmic-basis c.args.basis.now g.met.K.Field.field_laws g.met.K.FiniteField.numbering c.dim.ensures.lawful
-    c.requires.width c.requires.reduced c.requires.generates c.requires.degrees in
-    logarithmic-nonzero is c.in_ok-frame.frame c.in_ok-frame.ensures.resolution
-
-pub returns-clause-kept : goal.returns-clause-kept
-returns-clause-kept g c =
-    let ring = g.K.Ring.ring in
-    let f = c.in_ok-frame.frame in
-    IfOk-weaker c.minimise.result (HasKeptRows ring f)
-    (λ r. IsKept ring c.args.arr.now.dim c.args.basis.now.members (map_at r.maps 0).rows)
-    (λ r has. kept-resolution f r c.requires.generates c.in_ok-frame.ensures.resolution has) c.minimise.ensures.rows
+pub framed_resolution-requires-clause-degrees : goal.framed_resolution-requires-clause-degrees
+framed_resolution-requires-clause-degrees g c = subst (λ b. HaveDegrees g.K.Ring.ring b.members) (sym c.in_ok-whole.ensures) c.requires.degrees

@@ -1,0 +1,6 @@
+use Rattle.std.proofs.Common.{◌≡◌, map, take}
+use Rattle.hp_der.specs.CarriedBases.{carried}
+use Rattle.hp_der.proofs.carried.carried_vector.Given as goal
+
+abbrev pub invariant-loop-k : goal.invariant-loop-k
+invariant-loop-k g l = l.entries.items ≡ map (carried g.F.Ring.ring l.xs) (take l.k l.from)

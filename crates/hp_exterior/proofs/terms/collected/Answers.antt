@@ -1,0 +1,7 @@
+use Rattle.hp_exterior.proofs.TermSteps.{collected_ext}
+use Rattle.hp_exterior.proofs.terms.collected.Goals as goal
+
+pub returns-clause-answer : goal.returns-clause-answer
+returns-clause-answer g c =
+    collected_ext g.met.F.Field.field_laws c.args.terms.now c.in_ok-sum.ensures.values c.in_ok-sum.ensures.keys
+    c.in_ok-sum.ensures.value
