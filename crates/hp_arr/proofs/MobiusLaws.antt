@@ -1,13 +1,16 @@
 -- The Möbius values of an arrangement, and its coefficients as counts of sets without broken circuit.
 use Rattle.std.specs.Prelude.{◌≡◌, ℕ, zero, suc, ◌^◌, ◌≤◌, ◌==◌, Bool, true, cond, not, ◌&&◌, [], ◌∷◌, length, filter, pos, ◌*ℤ◌, neg_ℤ}
-use mathlib.Core.Path.{refl, sym, ap, ◌∙◌, subst}
+use mathlib.Core.Path.{refl, sym, ap, ◌∙◌}
+use native.Mathlib.Omega.{arith}
 use Rattle.hp_algebra.specs.Integers.{sign, sum_over}
 use Rattle.hp_lists.specs.Lists.{one_to}
 use Rattle.hp_sets.specs.Sets.{Set, contains, is_within, is_properly_within, sets_within}
+use Rattle.hp_arr.specs.Arrangement.{max_dim, max_forms}
 use Rattle.hp_arr.specs.Flats.{closure, rank, IsFlat, is_flat, flats_of_rank}
 use Rattle.hp_arr.specs.Moebius.{IsMobius, mobius_bounded, mobius, rank_sum}
 use Rattle.hp_arr.proofs.Setting.{Setting, over, n}
 use Rattle.hp_arr.proofs.Cuts.{flat-of_flat, IsFlat-set}
+use Rattle.hp_arr.proofs.Ranks.{rank-dim}
 use Rattle.hp_matroid.specs.Matroids as abstract
 use Rattle.hp_matroid.specs.Matroids.{same_set, Rises, Within, is_nbc}
 use Rattle.hp_matroid.proofs.Signs.{sign_sign}
@@ -15,7 +18,7 @@ use Rattle.hp_matroid.proofs.RisingSets.{set-rises}
 use Rattle.hp_matroid.proofs.Recursion.{mobius-IsMobius, rank_sum-sets}
 use Rattle.hp_matroid.proofs.Restriction.{alternating}
 use Rattle.hp_matroid.proofs.Whitney.{whitney, rank_sum-nbc}
-use Rattle.hp_matroid.proofs.NbcCounts.{length-sets_within, length-filter_low}
+use Rattle.hp_matroid.proofs.SizedSets.{closure-low, size-low}
 use Rattle.hp_matroid.proofs.Coatoms.{mobius-coatoms}
 use Rattle.hp_arr.proofs.ArrangementMatroids.{matroid}
 
@@ -66,9 +69,16 @@ module _ {K : Type 0} (S : Setting K) where
       ∙ ap (λ z. z *ℤ sign k) (rank_sum-nbc (matroid S) k)
       ∙ sign_sign k (length (filter (λ s. nbc s && (length s == k)) (sets_within (n S))))
 
-  -- there are at most 2^n such sets
-  pub counted-low : (test : Set → Bool) → length (filter test (sets_within (n S))) ≤ 2 ^ n S
-  counted-low test = subst (λ k. length (filter test (sets_within (n S))) ≤ k) (length-sets_within (n S)) (length-filter_low test (sets_within (n S)))
+  rank-high : (s : Set) → rank ring numbers arr s ≤ max_dim
+  rank-high s = let low = rank-dim (over S) s in let high = S.lawful.dim_high in omega (arith, low, high)
+
+  -- such sets are no more than the lists of so many forms as the greatest dimension
+  pub closure-count : (f : Set) → IsFlat ring numbers arr f
+      → length (filter (λ s. nbc s && same_set (closure ring numbers arr s) f) (sets_within (n S))) ≤ max_forms ^ max_dim
+  closure-count f is = closure-low (matroid S) max_forms max_dim (omega arith) S.lawful.few_forms rank-high f (flat-rises f is).0
+
+  pub size-count : (k : ℕ) → length (filter (λ s. nbc s && (length s == k)) (sets_within (n S))) ≤ max_forms ^ max_dim
+  size-count k = size-low (matroid S) max_forms max_dim (omega arith) S.lawful.few_forms rank-high k
 
   -- with a member i of a flat fixed, its Möbius value is minus the sum over the flats within, without i and of one rank less
   pub mobius-by_coatoms : (f : Set) (i : ℕ) → IsFlat ring numbers arr f → contains f i ≡ true

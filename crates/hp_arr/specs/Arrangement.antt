@@ -6,10 +6,10 @@ use Rattle.hp_algebra.specs.Rows.{IsRow, IsMultiple, is_zero_row}
 
 -- the greatest dimension, and the greatest number of forms
 abbrev pub max_dim : ℕ
-max_dim = 8
+max_dim = 10
 
 abbrev pub max_forms : ℕ
-max_forms = 60
+max_forms = 64
 
 -- A dimension, and a list of linear forms, each the list of its coefficients.
 pub record Arrangement (K : Type 0) : Type 0 where

@@ -7,15 +7,15 @@ use hp_algebra::NoMem;
 use thiserror::Error;
 
 /// The greatest dimension of an arrangement.
-pub const MAX_DIM: u32 = 8;
+pub const MAX_DIM: u32 = 10;
 
 /// The greatest number of its forms.
-pub const MAX_FORMS: u32 = 60;
+pub const MAX_FORMS: u32 = 64;
 
 // The definitions name these numbers too, as `max_dim` and `max_forms`.
-const _: () = prove!(MAX_DIM == 8);
+const _: () = prove!(MAX_DIM == 10);
 
-const _: () = prove!(MAX_FORMS == 60);
+const _: () = prove!(MAX_FORMS == 64);
 
 /// What is wrong with a list of forms, whose numbers count from 1.
 #[derive(Clone, Copy, Debug, PartialEq, Eq, Error)]

@@ -6,6 +6,7 @@
 
 ghost use Rattle.std.specs.Prelude.{◌≡◌, ◌⊎◌, ◌<◌, ◌≤◌, [], ◌∷◌, ◌++◌, IfOk, IfErr, IfSome, OnOk, IsFalse, IsTrue, IsNone, All, length, map, filter, take, false};
 ghost use Rattle.hp_algebra.specs.Rows.{IsRow, is_zero_row};
+ghost use Rattle.hp_arr.specs.Arrangement.{max_forms};
 ghost use Rattle.hp_arr.specs.Circuits.{nbc_sets};
 ghost use Rattle.hp_circuits.specs.NbcSearch.{are_nonzero, is_wanted, rows_below, wanted_from};
 ghost use Rattle.hp_sets.specs.Sets.{IsSetWithin};
@@ -71,7 +72,7 @@ fn extend<K: FiniteField>(
 ) -> Result<(), NbcStop>
     requires rows { All (IsRow K.ring arr.now.dim) rows.now }
     requires nonzero { All (λ row. IsFalse (is_zero_row K.ring row)) rows.now }
-    requires few { length rows.now ≤ 60 }
+    requires few { length rows.now ≤ max_forms }
     requires above { All (λ i. length rows.now < i) set }
     requires room { length found.old.items ≤ most }
     ensures value { OnOk result (found.new.items ≡ found.old.items ++ wanted_from K.ring K.inverse wanted (length rows.now) set rows.now) }

@@ -12,6 +12,7 @@ pub mod Restriction
 pub mod RisingLists
 pub mod RisingSets
 pub mod Signs
+pub mod SizedSets
 pub mod Subsets
 pub mod Triple
 pub mod Whitney

@@ -9,6 +9,7 @@ use Rattle.hp_algebra.specs.Integers.{sum_over, sign}
 use Rattle.hp_lists.specs.Lists.{below, one_to, range_with_len}
 use Rattle.hp_sets.specs.declared.flat.Flat.{Flat}
 use Rattle.hp_sets.specs.Sets.{Set}
+use Rattle.hp_arr.specs.Arrangement.{max_dim}
 use Rattle.hp_arr.specs.Flats.{flats, rank, total_rank}
 use Rattle.hp_arr.specs.Moebius.{mobius, rank_sum, poincare, characteristic}
 use Rattle.hp_arr.proofs.Setting.{Setting, over}
@@ -76,7 +77,7 @@ module _ {K : Type 0} (S : Setting K) where
       let pair : Flat → Flat × ℤ = λ f. (f, mobius ring numbers arr f.set) in
       subst (λ m. m ≤ k) (ap length e ∙ length-map all pair) l
 
-  pub rank-high : (s : Set) → rank ring numbers arr s ≤ 8
+  pub rank-high : (s : Set) → rank ring numbers arr s ≤ max_dim
   rank-high s = let low = rank-dim (over S) s in let high = S.lawful.dim_high in omega (arith, low, high)
 
   pub poincare-is : (k r : ℕ) (xs : List ℤ) → r ≡ rank ring numbers arr (one_to (length arr.forms)) → k ≤ r + 1 → r + 1 ≤ k

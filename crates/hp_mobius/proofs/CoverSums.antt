@@ -11,7 +11,6 @@ use Rattle.std.proofs.lemmas.Int.{ints}
 use Rattle.std.proofs.lemmas.List.{take-append-drop, take_more, map_more}
 use Rattle.std.proofs.lemmas.List.Elements.{Contains-append_left, Contains-append_right}
 use Rattle.std.proofs.Math.Seq.{drop-cons, take-length}
-use native.Mathlib.Nat.{pow-le-pow_right}
 use mathlib.Core.Logic.{inl, inr}
 use mathlib.Core.Path.{refl, sym, ap, ◌∙◌, subst}
 use native.Mathlib.Omega.{arith}
@@ -22,6 +21,7 @@ use Rattle.hp_lists.proofs.Ordered.{ordered_of}
 use Rattle.hp_sets.specs.Sets.{Set, contains, is_within, sets_within, cmp_listed}
 use Rattle.hp_sets.specs.declared.flat.Flat.{Flat}
 use Rattle.hp_sets.proofs.SetLaws.{empty-set, Contains-contains}
+use Rattle.hp_arr.specs.Arrangement.{max_dim, max_forms}
 use Rattle.hp_arr.specs.Flats.{closure, rank, flats, flats_of_rank, is_flat, IsFlat, cmp_ranked}
 use Rattle.hp_arr.specs.Moebius.{mobius, rank_sum}
 use Rattle.hp_arr.proofs.Setting.{Setting, over, n}
@@ -34,7 +34,7 @@ use Rattle.hp_matroid.proofs.Expansion.{sum_over-filter}
 use Rattle.hp_matroid.proofs.Signs.{sign_sign}
 use Rattle.hp_mobius.specs.Partial.{misses_least, noted, value_from, IsSmall, IsShared, gain, partial, IsAddedUp}
 use Rattle.hp_arr.proofs.ArrangementMatroids.{closure-empty}
-use Rattle.hp_arr.proofs.MobiusLaws.{nbc, coefficient-nbc, mobius-meets, mobius-nbc, mobius-by_coatoms, counted-low}
+use Rattle.hp_arr.proofs.MobiusLaws.{nbc, coefficient-nbc, mobius-meets, mobius-nbc, mobius-by_coatoms, closure-count, size-count}
 use Rattle.hp_mobius.proofs.SignedSums.{sign-sum, sign-turn, small-from, none-signed, terms}
 use Rattle.hp_mobius.proofs.LevelSums.{sum-same, sum-none, sum-rank}
 
@@ -167,11 +167,8 @@ module _ {K : Type 0} (S : Setting K) where
 
   -- ---- bounds
 
-  fits : (c : ℕ) → c ≤ 2 ^ n S → c ≤ 2 ^ 60
-  fits c l = under c (2 ^ n S) (2 ^ 60) l (pow-le-pow_right (omega arith) S.lawful.few_forms)
-    where
-      under : (a b c : ℕ) → a ≤ b → b ≤ c → a ≤ c
-      under a b c l m = omega arith
+  fits : (c : ℕ) → c ≤ max_forms ^ max_dim → c ≤ 2 ^ 60
+  fits c l = l
 
   small : (x : ℤ) (k a : ℕ) → x *ℤ sign k ≡ pos a → a ≤ 2 ^ 60 → IsSmall x
   small x k a e l = let p = small-from x k a (2 ^ 60) e l in record { low = p.0; high = p.1 }
@@ -181,7 +178,7 @@ module _ {K : Type 0} (S : Setting K) where
   absolute f is =
       let test : Set → Bool = λ s. nbc S s && same_set (closure ring numbers arr s) f in
       let c = length (filter test (sets_within (n S))) in
-      (c, ap (λ z. z *ℤ sign (rk f)) (mobius-nbc S f is) ∙ sign_sign (rk f) c, fits c (counted-low S test))
+      (c, ap (λ z. z *ℤ sign (rk f)) (mobius-nbc S f is) ∙ sign_sign (rk f) c, fits c (closure-count S f is))
 
   pub small-value : (f : Set) → Flats f → IsSmall (mu f)
   small-value f is = let a = absolute f is in small (mu f) (rk f) a.0 a.1 a.2
@@ -258,7 +255,7 @@ module _ {K : Type 0} (S : Setting K) where
   small-rank k done rest e =
       let test : Set → Bool = λ s. nbc S s && (length s == k) in
       let c = length (filter test (sets_within (n S))) in
-      let x = small-prefix (of_rank k) k done rest e one c (ap (λ z. z *ℤ sign k) (rank-total k) ∙ coefficient-nbc S k) (fits c (counted-low S test)) in
+      let x = small-prefix (of_rank k) k done rest e one c (ap (λ z. z *ℤ sign k) (rank-total k) ∙ coefficient-nbc S k) (fits c (size-count S k)) in
       small (sum_over (of_rank k) done) k x.0 x.1 x.2
     where
       one : (h : Flat) → Contains all h → (a : ℕ) × (of_rank k h *ℤ sign k ≡ pos a)

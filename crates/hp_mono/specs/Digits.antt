@@ -3,14 +3,11 @@ use Rattle.std.specs.Prelude.{◌≡◌, ℕ, ◌+◌, ◌*◌, ◌/◌, ◌%◌
 use Rattle.hp_mono.specs.Monomials.{Monomial}
 use native.Mathlib.Omega.{arith}
 
--- five digits and three digits, the last with all that is above it
+-- five digits, the last with all that is above it
 abbrev pub five_digits : ℕ → List ℕ
 five_digits w =
     w % 4096 ∷ w / 4096 % 4096 ∷ w / 4096 / 4096 % 4096 ∷ w / 4096 / 4096 / 4096 % 4096
     ∷ w / 4096 / 4096 / 4096 / 4096 ∷ []
-
-abbrev pub three_digits : ℕ → List ℕ
-three_digits w = w % 4096 ∷ w / 4096 % 4096 ∷ w / 4096 / 4096 ∷ []
 
 -- each number of a list is at most the number at its place in another
 abbrev pub EachAtMost : List ℕ → List ℕ → Type 0
@@ -25,7 +22,7 @@ from_digits (d ∷ ds) = d + 4096 * from_digits ds
 
 -- the exponents that two words stand for
 abbrev pub exponents_of : ℕ → ℕ → Monomial
-exponents_of low high = five_digits low ++ three_digits high
+exponents_of low high = five_digits low ++ five_digits high
 
 -- the words with these exponents
 abbrev pub low_word : Monomial → ℕ

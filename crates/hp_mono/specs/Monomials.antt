@@ -6,13 +6,13 @@ use Rattle.std.specs.Cmp.Lexicographic.{slice_cmp}
 
 -- how many variables there are
 abbrev pub vars : ℕ
-vars = 8
+vars = 10
 
 -- the greatest degree of a monomial that is kept in two words
 abbrev pub max_degree : ℕ
 max_degree = 4000
 
--- the exponents of x_1, .., x_8
+-- the exponents of x_1, .., x_10
 abbrev pub Monomial : Type 0
 Monomial = List ℕ
 

@@ -1,4 +1,4 @@
-//! Monomials in eight variables, terms of vectors of polynomials, and orders of terms with their laws.
+//! Monomials in ten variables, terms of vectors of polynomials, and orders of terms with their laws.
 #![tactic(auto)]
 
 mod mono;

@@ -10,13 +10,13 @@ use std::cmp::Ordering;
 use std::marker::Model;
 
 /// How many variables there are.
-pub const VARS: usize = 8;
+pub const VARS: usize = 10;
 
 /// The greatest degree of a monomial.
 pub const MAX_DEGREE: u32 = 4000;
 
 // The definitions name these numbers too, as `vars` and `max_degree`.
-const _: () = prove!(VARS == 8);
+const _: () = prove!(VARS == 10);
 
 const _: () = prove!(MAX_DEGREE == 4000);
 
@@ -29,9 +29,9 @@ const BORROWS: u64 = 1 << 12 | 1 << 24 | 1 << 36 | 1 << 48 | 1 << 60;
 /// A monomial of degree at most `MAX_DEGREE`, seen as the list of its `VARS` exponents.
 ///
 /// The exponents are digits in base 4096: those of x_1 to x_5 of the word `low`, the first the lowest, and those of x_6
-/// to x_8 of the word `high`, which has room for two more. The sum of all digits is below 4096, so sums and differences of
-/// words carry nothing from one exponent to the next, two words of one degree compare as their last exponents do, and
-/// the degree is a digit of one product. Keeping it beside the words would make the struct half as large again.
+/// to x_10 of the word `high`. The sum of all digits is below 4096, so sums and differences of words carry nothing from
+/// one exponent to the next, two words of one degree compare as their last exponents do, and the degree is a digit of
+/// one product. Keeping it beside the words would make the struct half as large again.
 #[derive(Clone, Copy, Debug)]
 pub struct Mono {
     low: u64,
@@ -99,7 +99,7 @@ impl Mono {
         ensures value { result ≡ e }
     {
         let low = word(e[0], e[1], e[2], e[3], e[4]);
-        let high = word(e[5], e[6], e[7], 0, 0);
+        let high = word(e[5], e[6], e[7], e[8], e[9]);
         Mono { low, high }
     }
 

@@ -1,5 +1,6 @@
 use Rattle.std.proofs.Common.{◌≡◌, ◌↔◌, ◌+◌, ◌≤◌, ℕ, true, length, sym, subst, arith}
 use Rattle.hp_sets.specs.Sets.{IsSetWithin}
+use Rattle.hp_arr.specs.Arrangement.{max_forms}
 use Rattle.hp_sets.proofs.SetLaws.{set-wider}
 use Rattle.hp_flats.specs.Levels.{IsOfClass}
 use Rattle.hp_sets.proofs.ClassSteps.{TakesUp, takes-none, takes-step, takes-all, takes-set}
@@ -18,7 +19,7 @@ loop-k-preserved g c =
     let P : ℕ → Type 0 = λ m. IsOfClass g.K.Ring.ring c.args.rows.now c.args.covered c.args.q c.args.i n m in
     let low : 1 ≤ k = omega (arith, c.requires.low, c.loop-k.auto.k) in
     let high : k ≤ n = omega (arith, c.loop-k-test.true, c.len-k-end.ensures.value) in
-    let few : n ≤ 60 = c.len-k-end.ensures.lawful.few_forms in
+    let few : n ≤ max_forms = c.len-k-end.ensures.lawful.few_forms in
     let word = set-wider n 64 found (omega (arith, few)) c.loop-k.invariant.set in
     let h : (c.is_of_class.result ≡ true) ↔ P k =
     ((λ t. let w = c.is_of_class.ensures.0 t in (c.loop-k.auto.k, high, w.0, w.1)), λ p. c.is_of_class.ensures.1 (p.2, p.3)) in
