@@ -13,7 +13,7 @@ import itertools
 import re
 
 PRIMES = (5, 7, 13, 31, 101, 251, 32003)
-MOST_DIM, MOST_FORMS, MOST_PAIRS, MOST_DEGREE = 8, 60, 1000000, 240
+MOST_DIM, MOST_FORMS, MOST_PAIRS, MOST_DEGREE = 10, 64, 1000000, 240
 MOST_POINTS = 32003  # spaces of so many points are enumerated
 MOST_SETS = 100000
 MOST_GENERATORS = 8  # exterior algebras on so many generators are gone through
@@ -263,32 +263,45 @@ class Arrangement:
     def __init__(self, p, dim, forms):
         self.p, self.dim, self.forms = p, dim, [tuple(c % p for c in form) for form in forms]
 
+    @functools.cached_property
+    def places(self):
+        """Coordinates such that each point differs by one that lies in all hyperplanes from exactly one point that is
+        zero at all other coordinates: points with these coordinates alone tell ranks and flats."""
+        span = Span(self.p, lambda k: k)
+        for form in self.forms:
+            span.add({k: a for k, a in enumerate(form) if a})
+        return sorted(span.basis)
+
     @property
     def is_enumerable(self):
-        return self.p ** self.dim <= MOST_POINTS
+        return self.p ** len(self.places) <= MOST_POINTS
 
-    @functools.cached_property
-    def hyperplanes(self):
-        """For each form the set of the points where it is zero: a bit for each point in lexicographic order."""
-        if not self.is_enumerable:
-            raise TooLarge
+    def points_at(self, places):
+        """For each form the set of the points with these coordinates where it is zero: a bit for each point in
+        lexicographic order."""
         sets = []
         for form in self.forms:
             values = [0]
-            for a in form:
-                values = [(u + a * x) % self.p for u in values for x in range(self.p)]
+            for k in places:
+                values = [(u + form[k] * x) % self.p for u in values for x in range(self.p)]
             sets.append(int("".join("0" if u else "1" for u in reversed(values)), 2))
         return sets
+
+    @functools.cached_property
+    def hyperplanes(self):
+        if not self.is_enumerable:
+            raise TooLarge
+        return self.points_at(self.places)
 
     @functools.cached_property
     def space(self):
         if not self.is_enumerable:
             raise TooLarge
-        return 2 ** self.p**self.dim - 1
+        return 2 ** self.p ** len(self.places) - 1
 
     def rank_of(self, cut):
-        count = bin(cut).count("1")
-        return next(r for r in range(self.dim + 1) if count * self.p**r == self.p**self.dim)
+        count, most = bin(cut).count("1"), len(self.places)
+        return next(r for r in range(most + 1) if count * self.p**r == self.p**most)
 
     def rank(self):
         return self.rank_of(functools.reduce(lambda cut, points: cut & points, self.hyperplanes, self.space))
@@ -408,9 +421,10 @@ class Arrangement:
         return dimensions
 
     def point(self):
-        if not self.is_enumerable:
+        if self.p**self.dim > MOST_POINTS:
             return self.point_by_search(())
-        off = self.space & ~functools.reduce(lambda all_points, points: all_points | points, self.hyperplanes, 0)
+        on = functools.reduce(lambda all_points, points: all_points | points, self.points_at(range(self.dim)), 0)
+        off = (2**self.p**self.dim - 1) & ~on
         number = bin(off)[::-1].index("1")
         return [number // self.p**k % self.p for k in reversed(range(self.dim))]
 

@@ -1,2 +1,2 @@
 field 31
-let A = forms 9 []
+let A = forms 11 []

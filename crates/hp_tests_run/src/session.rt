@@ -17,8 +17,8 @@ limit degree 241
 let A = boolean 2
 let B = forms 2 [1 2, 2 4]
 let B = forms 1 [31]
-let B = cone 8 []
-let B = typeA 8
+let B = cone 10 []
+let B = typeA 10
 let B = typeB 6
 let B = graphic 3 [1-2 2-1]
 let B = delete A 4
