@@ -143,7 +143,7 @@ readNumber = s -> if match("^-?[0-9]+$", s) then value s else unreadable s
 
 readNumbers = s -> if s === "" then {} else apply(separate(" ", s), readNumber)
 
-smallNumbers = hashTable apply(61, i -> toString i => i)
+smallNumbers = hashTable apply(65, i -> toString i => i)
 
 -- the members of a set, counted from 0
 readSet = s -> (
@@ -1218,6 +1218,18 @@ Q = restriction(arrangement({x, y, x - 2*y}, R), {0})
 assert(arrangeRank trim Q === 1)
 ///
 
+-- ten variables, and sixty-four hyperplanes
+TEST ///
+R = ZZ/101[x_1..x_10]
+A = arrangement gens R
+assert(arrangeDer A == diagonalMatrix gens R)
+assert verifyFreeness(A, arrangeFree A)
+S = ZZ/101[s,t]
+B = arrangement for k from 0 to 63 list s + k*t
+assert(toList first last arrangeFlats B === toList(0..63))
+assert(arrangePoint B == {1, 0})
+///
+
 -- limits are values
 TEST ///
 R = ZZ/31[x,y]
@@ -1258,7 +1270,7 @@ assert fails(() -> arrangeDer(A, {1, 1}))
 assert fails(() -> arrangeDer(A, {1, 1, 21}))
 assert fails(() -> arrangeAomoto(A, {1, 1}))
 assert fails(() -> arrangeTriple(A, 3))
-assert fails(() -> arrangeRank typeA(8, ZZ/101))
+assert fails(() -> arrangeRank typeA(10, ZZ/101))
 assert fails(() -> arrangeRank typeD(4, ZZ/7))
 ///
 

@@ -9,7 +9,7 @@ from .errors import BadInput
 from .fields import Field
 from .linear_forms import MOST_VARIABLES
 
-MOST_FORMS = 60
+MOST_FORMS = 64
 Row = Tuple[Fraction, ...]
 
 

@@ -8,7 +8,7 @@ from typing import Dict, Iterable, List, Optional, Sequence, Tuple, Union
 from .errors import BadInput
 from .fields import whole_number
 
-MOST_VARIABLES = 8
+MOST_VARIABLES = 10
 Variables = Union[None, int, str, Sequence[str]]
 NAME = re.compile(r"[A-Za-z][A-Za-z0-9_]*")
 # A term, with the blanks behind it: its sign, its number, and its variable, which may be divided by a number.

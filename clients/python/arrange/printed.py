@@ -209,7 +209,7 @@ class Body:
         exponents = [0] * width
         last = 0
         for power in powers:
-            part = re.fullmatch(r"x([1-9])(?:\^([1-9][0-9]*))?", power)
+            part = re.fullmatch(r"x([1-9][0-9]?)(?:\^([1-9][0-9]*))?", power)
             if part is None or not last < int(part[1]) <= width or part[2] == "1":
                 raise unreadable(text, f"a term in {width} variables")
             last = int(part[1])
@@ -261,7 +261,7 @@ class Body:
 
 
 def _hyperplanes(body: Body) -> List[Tuple[int, ...]]:
-    counts = re.fullmatch(rf"({NATURAL}) in ([1-9])", body.rest)
+    counts = re.fullmatch(rf"({NATURAL}) in ([1-9][0-9]?)", body.rest)
     if counts is None or body.count not in (None, int(counts[1])):
         raise unreadable(body.rest, "the numbers of hyperplanes and variables")
     body.take_width(int(counts[2]))

@@ -214,7 +214,7 @@ class Networkx(Bad):
         self.assertEqual(line(Arrangement.from_graph(Graph(["a", "b", "c"], [("a", "c"), ("c", "b")]), FIELD)), "graphic 3 [1-3 3-2]")
         self.assertEqual(line(Arrangement.from_graph(Graph(["a", "b"], [("a", "b", 0)]), FIELD)), "graphic 2 [1-2]")
         self.bad("edge 2", "joins what edge 1 joins", Arrangement.from_graph, Graph(["a", "b"], [("a", "b", 0), ("a", "b", 1)]), FIELD)
-        self.bad("dimension", "9 is not", Arrangement.from_graph, Graph(list("abcdefghi"), []), FIELD)
+        self.bad("dimension", "11 is not", Arrangement.from_graph, Graph(list("abcdefghijk"), []), FIELD)
         self.bad("graph", "list is no graph", Arrangement.from_graph, [(1, 2)], FIELD)
 
     @unittest.skipUnless(importlib.util.find_spec("networkx"), "networkx is not installed")

@@ -63,11 +63,11 @@ class TypedForms(Bad):
     def test_places_of_variables(self):
         self.bad("variable 2", "x stands there twice", Arrangement.forms, ["x"], FIELD, "x x")
         self.bad("variable 2", "'2' is no name", Arrangement.forms, ["x"], FIELD, ["x", "2"])
-        self.bad("variables", "x9999999999 is the name of more than 8", Arrangement.forms, ["x9999999999"])
+        self.bad("variables", "x9999999999 is the name of more than 10", Arrangement.forms, ["x9999999999"])
         self.bad("variables", "no integer", Arrangement.forms, ["x"], FIELD, 2.5)
         self.bad("variables", "has to be given", Arrangement.forms, [], FIELD)
-        self.bad("dimension", "0 is not from 1 to 8", Arrangement.forms, [], FIELD, 0)
-        self.bad("dimension", "9 is not from 1 to 8", Arrangement.forms, list("abcdefghi"), FIELD)
+        self.bad("dimension", "0 is not from 1 to 10", Arrangement.forms, [], FIELD, 0)
+        self.bad("dimension", "11 is not from 1 to 10", Arrangement.forms, list("abcdefghijk"), FIELD)
 
     def test_faults_of_forms(self):
         self.bad("form 2", "zero over the field with 31 elements", Arrangement.forms, ["x", "31*x", "2*x"], FIELD)
@@ -75,8 +75,8 @@ class TypedForms(Bad):
         self.bad("form 2", "multiple of form 1 over the field with 5 elements", Arrangement.forms, ["x + y", "x - 4*y"], 5)
         self.bad("form 2, coefficient 1", "1/31 has no residue at 31", Arrangement.forms, ["x", "1/31*x + y"], FIELD)
         self.bad("arrangement", "5 hyperplanes are not fewer than the 5 elements", Arrangement.forms, [[1, k] for k in range(5)], 5)
-        self.bad("arrangement", "61 hyperplanes are more than 60", Arrangement.forms, [[1, k] for k in range(61)], 101)
-        self.assertEqual(len(Arrangement.forms([[1, k] for k in range(60)], 101)), 60)
+        self.bad("arrangement", "65 hyperplanes are more than 64", Arrangement.forms, [[1, k] for k in range(65)], 101)
+        self.assertEqual(len(Arrangement.forms([[1, k] for k in range(64)], 101)), 64)
 
     def test_rows(self):
         self.assertEqual(line(Arrangement.forms([[1, Fraction(1, 2)], (0, "-1")], FIELD)), "forms 2 [1 16, 0 30]")
@@ -100,7 +100,7 @@ class Cones(Bad):
     def test_faults(self):
         self.bad("form 2", "it is a multiple of form 1", Arrangement.cone, ["x - 1", "2 - 2*x"], FIELD)
         self.bad("form 2", "the form of the cone's last variable is a multiple of form 1", Arrangement.cone, [[0, 1]], FIELD)
-        self.bad("dimension", "9 is not", Arrangement.cone, [[1] * 9], FIELD)
+        self.bad("dimension", "11 is not", Arrangement.cone, [[1] * 11], FIELD)
 
 
 class Families(Bad):
@@ -112,12 +112,14 @@ class Families(Bad):
             self.assertEqual((line(arrangement), len(arrangement), arrangement.dimension), (wanted, count, dimension))
 
     def test_faults(self):
-        self.bad("dimension", "9 is not", Arrangement.type_a, 8)
+        self.bad("dimension", "11 is not", Arrangement.type_a, 10)
         self.bad("dimension", "0 is not", Arrangement.type_b, 0)
         self.bad("arrangement", "12 hyperplanes are not fewer than the 7 elements", Arrangement.type_d, 4, 7)
-        self.bad("arrangement", "64 hyperplanes are more than 60", Arrangement.type_b, 8)
+        self.bad("arrangement", "81 hyperplanes are more than 64", Arrangement.type_b, 9)
         self.bad("rank", "no integer", Arrangement.boolean, "2")
         self.assertEqual(len(Arrangement.type_d(8, 101)), 56)
+        self.assertEqual(len(Arrangement.type_b(8, 101)), 64)
+        self.assertEqual((len(Arrangement.type_a(9, 101)), Arrangement.type_a(9, 101).dimension), (45, 10))
 
 
 class Graphs(Bad):
@@ -132,7 +134,7 @@ class Graphs(Bad):
         self.bad("edge 1", "no pair of vertices", Arrangement.graphic, 3, [(1, 2, 3)])
         self.bad("edge 1", "no pair of vertices", Arrangement.graphic, 3, [5])
         self.bad("edge 1", "no integer", Arrangement.graphic, 3, ["ab"])
-        self.bad("dimension", "9 is not", Arrangement.graphic, 9, [])
+        self.bad("dimension", "11 is not", Arrangement.graphic, 11, [])
 
 
 class Questions(Bad):

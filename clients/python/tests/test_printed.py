@@ -218,7 +218,7 @@ class Drawn(unittest.TestCase):
 
     def test_again(self):
         for k in range(100):
-            ring = Ring(31, tuple(f"x{i}" for i in range(1, self.chance.randrange(1, 9) + 1)))
+            ring = Ring(31, tuple(f"x{i}" for i in range(1, self.chance.randrange(1, 11) + 1)))
             word, drawn = ("resolve", self.resolution(ring)) if k % 2 else ("free", self.freeness(ring))
             text = printed(PrintedAnswer(word, "A", drawn, ""))
             self.assertEqual(value(text), drawn)
@@ -259,7 +259,7 @@ class Misprinted(unittest.TestCase):
         "triple A:\nwhole: 1\nrestricted: 1\ndeleted: 1\n", "normal A: 0*e1\n", "normal A: e1\n", "normal A: 1*e2*e1\n",
         "normal A: 1*e1 + 2*e1\n", "normal A: 1*e1 - 1*e2\n", "normal A: 1*f1\n", "normal A: 1*e01\n", "normal A: 31\n", "normal A: 0 + 1\n",
         "der A: 1\n1: (1*x1, 1*x3)\n", "der A: 1\n2: (1*x1, 1*x2)\n", "der A: 1\n1: (x1, 1*x2)\n", "der A: 1\n1: (1*x1^1, 0)\n",
-        "der A: 1\n2: (1*x2*x1, 0)\n", "der A: 1\n2: (1*x2^2 + 1*x1*x2, 0)\n", "der A: 1\n1: (1*x1 + 1*x1, 0)\n", "der A: 1\n1: (1*x1,0)\n",
+        "der A: 1\n2: (1*x2*x1, 0)\n", "der A: 1\n2: (1*x2^2 + 1*x1*x2, 0)\n", "der A: 1\n1: (1*x1 + 1*x1, 0)\n", "der A: 1\n1: (1*x1,0)\n", "der A: 1\n1: (1*x01, 0)\n", "der A: 1\n1: (1*x10, 0)\n",
         "der A: 1\n1: [1*x1, 0]\n", "der A: 1\n1: (0*x1, 0)\n", "der A: 2\n1: (1*x1, 0)\n1: (1*x1)\n",
         "resolve A: 0\n", "resolve A: 1\nbetti 1: 0 1\n1: (1*x1)\n", "resolve A: 1\nbetti 0: 1\n1: (1*x1)\n",
         "resolve A: 2\nbetti 0: 0 1\n1: (1*x1)\nbetti 1: 0 1\n1: (0, 1)\n", "free A: maybe\n", "free A: no\n", "free A: no x\n",
