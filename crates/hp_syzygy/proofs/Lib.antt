@@ -15,3 +15,4 @@ pub mod NextChains
 pub mod NextLevels
 pub mod PairQuotients
 pub mod RankLaws
+pub mod SortedKeys

@@ -1,11 +1,11 @@
 //! The ranks of the members of a level.
 
-ghost use Rattle.std.specs.Prelude.{◌≡◌, ◌<◌, ◌≤◌, ◌+◌, ◌^◌, ℕ, cond, IfOk, length, reverse};
+ghost use Rattle.std.specs.Prelude.{◌≡◌, ◌<◌, ◌≤◌, ℕ, IfOk, length, reverse};
 ghost use Rattle.std.specs.Ordering.{nat_cmp};
 ghost use Rattle.std.specs.Cmp.Lexicographic.{slice_cmp};
 ghost use Rattle.hp_mono.specs.TermOrders.{IsTermWithin};
 ghost use Rattle.hp_syzygy.specs.FrameLevels.{AreRanks, exponent_at, level_lead, level_width};
-ghost use Rattle.hp_syzygy.specs.MemberRanks.{is_before, member_rank};
+ghost use Rattle.hp_syzygy.specs.MemberRanks.{AreSortedKeys, key_order};
 
 use crate::level::Level;
 use crate::order::{compare_by_last, exponent_sums};
@@ -23,48 +23,40 @@ pub(crate) fn ranks_of<F: Field>(alloc: Global, level: &Level<F>) -> Result<Vec<
     requires left { (i p : ℕ) → i < length level.now.leads → level.now.left ≤ p → exponent_at (level_lead level.now i) p ≡ 0 }
     ensures { IfOk result (λ r. AreRanks level.now r.items) }
 {
-    let mut ranks = Vec::new(alloc);
-    for i in 0..level.leads.len() {
-        ranks.push(rank_of_member(level, i))?;
+    let keys = sorted_keys(alloc, level)?;
+    let mut ranks = vec![in alloc; 0; level.leads.len()]?;
+    for k in 0..keys.len() {
+        ranks[keys[k].2] = k;
     }
     Ok(ranks)
 }
 
-/// How many members come before member `i`.
-fn rank_of_member<F: Field>(level: &Level<F>, i: usize) -> usize
-    requires place { i < length level.now.leads }
-    requires within { (i : ℕ) → i < length level.now.leads → IsTermWithin (level_width level.now) (level_lead level.now i) }
-    ensures { result ≡ member_rank level.now i }
+/// What the members are compared by, in order.
+///
+/// Errors: `NoMem` where memory is out.
+fn sorted_keys<F: Field>(
+    alloc: Global,
+    level: &Level<F>,
+) -> Result<Vec<(usize, Mono, usize)>, NoMem>
+    requires { (i : ℕ) → i < length level.now.leads → IsTermWithin (level_width level.now) (level_lead level.now i) }
+    ensures { IfOk result (λ r. AreSortedKeys level.now r.items) }
 {
-    let mut rank = 0;
-    for j in (0..level.leads.len()).rev() {
-        rank = counted(comes_before(level, j, i), rank);
-    }
-    rank
-}
-
-/// One more where the test is passed.
-fn counted(passed: bool, count: usize) -> usize
-    requires { count + 1 < 2 ^ 64 }
-    ensures { result ≡ cond passed 1 0 + count }
-{
-    if passed { count + 1 } else { count }
-}
-
-/// Whether member `j` comes before member `i`.
-fn comes_before<F: Field>(level: &Level<F>, j: usize, i: usize) -> bool
-    requires left { j < length level.now.leads }
-    requires right { i < length level.now.leads }
-    requires within { (i : ℕ) → i < length level.now.leads → IsTermWithin (level_width level.now) (level_lead level.now i) }
-    ensures { result ≡ is_before level.now j i }
-{
-    let s = level.leads[j];
-    let t = level.leads[i];
     let ranks = level.order.ranks();
-    let order = ranks[s.comp - 1]
-        .cmp(&ranks[t.comp - 1])
-        .then(compare_exponents(&s.mono, &t.mono).then(j.cmp(&i)));
-    order == Ordering::Less
+    let mut keys = Vec::new(alloc);
+    for i in 0..level.leads.len() {
+        let lead = level.leads[i];
+        keys.push((ranks[lead.comp - 1], lead.mono, i))?;
+    }
+    keys.sort_unstable_by(compare_keys);
+    Ok(keys)
+}
+
+/// How two members compare.
+fn compare_keys(s: &(usize, Mono, usize), t: &(usize, Mono, usize)) -> Ordering
+    ensures { result ≡ key_order s.now t.now }
+{
+    s.0.cmp(&t.0)
+        .then(compare_exponents(&s.1, &t.1).then(s.2.cmp(&t.2)))
 }
 
 /// How the exponents of two monomials compare, the last variable first.
