@@ -27,7 +27,7 @@ use Rattle.hp_graded.proofs.ExponentTails.{IsFirst}
 use Rattle.hp_der.specs.DerivationModules.{column_generator, extended_generators, extended_width, in_component, most_multiplicity, power_generator, power_of}
 use Rattle.hp_der.proofs.FirstForms.{AllFirst, first-constant, first-power, homogeneous-constant, homogeneous-power}
 
--- The rows have as many entries as there are variables, at most 8; each form has a multiplicity, at most 20.
+-- The rows have as many entries as there are variables, at most `vars`; each form has a multiplicity, at most 20.
 pub record IsMultiArrangement {K : Type 0} (ring : RingOf K) (arr : Arrangement K) (mult : List ℕ) : Type 0 where
   pub rows : All (IsRow ring arr.dim) arr.forms
   pub dim_high : arr.dim ≤ vars
