@@ -1,8 +1,11 @@
 pub mod Broken
+pub mod CentralSets
+pub mod CentralTriples
 pub mod Coatoms
 pub mod Exchange
 pub mod Expansion
 pub mod FlatSteps
+pub mod Infinity
 pub mod Listing
 pub mod Minors
 pub mod Nbc
