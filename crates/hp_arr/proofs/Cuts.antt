@@ -1,24 +1,39 @@
 -- Cuts and closures: what their members are, and the laws of the closure.
-use Rattle.std.specs.Prelude.{◌≡◌, ℕ, ◌+◌, ◌<◌, ◌≤◌, true, ◌&&◌, List, [], ◌∷◌, length, filter, Contains, ◌⊎◌}
-use Rattle.std.proofs.lemmas.Bool.{and_from}
+use Rattle.std.specs.Prelude.{◌≡◌, ℕ, ◌+◌, ◌<◌, ◌≤◌, nat_lt, true, ◌&&◌, List, [], ◌∷◌, length, filter, Contains, ◌⊎◌, suc}
+use Rattle.std.proofs.lemmas.Bool.{and_from, lt-ltb, ltb-true}
 use Rattle.std.specs.Cmp.{both_ways}
 use mathlib.Core.Logic.{inl, inr}
 use mathlib.Core.Path.{sym, ap, ◌∙◌, subst}
 use native.Mathlib.Omega.{arith}
 use Rattle.hp_algebra.specs.Ring.{RingOf, Numbering}
 use Rattle.hp_lists.specs.Lists.{list_all}
-use Rattle.hp_lists.proofs.Members.{second_true, Contains-later, Contains-cases, Contains-none, Contains-filter, filter-Contains, all-at, all-from, filter-ext}
+use Rattle.hp_lists.proofs.Members.{second_true, Contains-here, Contains-later, Contains-cases, Contains-none, Contains-filter, filter-Contains, all-at, all-from, filter-ext}
 use Rattle.hp_lists.proofs.Ranges.{range_members, members_range}
-use Rattle.hp_sets.specs.Sets.{Set, IsSetWithin, with_member}
+use Rattle.hp_sets.specs.Sets.{Set, IsSetWithin}
 use Rattle.hp_sets.proofs.Parts.{IsPart}
-use Rattle.hp_sets.proofs.SetLaws.{set_members, set-wider, filter-set}
-use Rattle.hp_sets.proofs.SetMembers.{with-members, members-with}
-use Rattle.hp_arr.specs.Arrangement.{Arrangement, max_forms, indices, lies_in}
-use Rattle.hp_algebra.specs.Rows.{IsRow}
-use Rattle.hp_arr.specs.Flats.{points, cut, closure, IsFlat}
+use Rattle.hp_sets.proofs.SetLaws.{set_members, filter-set}
+use Rattle.hp_arr.specs.Arrangement.{Arrangement, form, indices, lies_in}
+use Rattle.hp_algebra.specs.Rows.{IsRow, zero_row}
+use Rattle.hp_algebra.proofs.Rings.{zero_passes}
+use Rattle.hp_algebra.proofs.Rows.{zeros-row}
+use Rattle.hp_algebra.proofs.Dots.{dot-comm, dot-zeros}
+use Rattle.hp_arr.specs.Flats.{points, cut, has_point, closure, IsFlat}
+use Rattle.hp_arr.proofs.FormValues.{form-lies}
 use Rattle.hp_arr.proofs.OverField.{IsOverField, field_of}
 use Rattle.hp_arr.proofs.SpacePoints.{points-rows, rows-points}
-use Rattle.hp_arr.proofs.Counting.{lies_in_all}
+use Rattle.hp_arr.proofs.Counting.{lies_in_all, form_values}
+
+-- a list is not empty where it has a member
+pub some-first : {X : Type 0} (xs : List X) (x : X) → Contains xs x → nat_lt 0 (length xs) ≡ true
+some-first [] x c = absurd (Contains-none x c)
+some-first (y ∷ xs) x c = lt-ltb 0 (suc (length xs)) (omega arith)
+
+pub first-some : {X : Type 0} (xs : List X) → nat_lt 0 (length xs) ≡ true → (x : X) × Contains xs x
+first-some [] h = absurd (none (ltb-true 0 0 h))
+  where
+    none : 0 < 0 → ⊥
+    none l = omega (arith, l)
+first-some (x ∷ xs) h = (x, Contains-here x xs)
 
 -- ---- sets of indices
 
@@ -63,6 +78,17 @@ module _ {K : Type 0} {ring : RingOf K} {inverse : K → K} {numbers : Numbering
   pub members-cut : (s : Set) (x : List K) → IsRow ring arr.dim x → lies_in_all ring arr s x ≡ true → Contains (cut ring numbers arr s) x
   unfolding cut
   members-cut s x r h = Contains-filter (lies_in_all ring arr s) (points ring numbers arr.dim) x (rows-points (field_of over) arr.dim x r) h
+
+  -- the origin lies in every hyperplane, so each set has a common point
+  pub has_origin : (s : Set) → has_point ring numbers arr s ≡ true
+  unfolding has_point
+  has_origin s =
+      let laws = over.field.is_ring in
+      let origin = zero_row ring arr.dim in
+      let o = zeros-row laws arr.dim in
+      some-first (cut ring numbers arr s) origin (members-cut s origin o (all-from (λ i. lies_in ring arr i origin) s (λ i c.
+      form-lies ring arr over.forms.rows i origin o.0
+      ∙ zero_passes laws _ (dot-comm laws over.field.commutes (form arr i) origin (form_values over i) o.1 ∙ dot-zeros laws arr.dim (form arr i) (form_values over i)))))
 
   -- the members of the closure are the hyperplanes that contain the cut
   pub flat-members : (s : Set) (j : ℕ) → Contains (closure ring numbers arr s) j → IsIndex arr j × IsAbove ring arr s j
@@ -156,35 +182,16 @@ module _ {K : Type 0} {ring : RingOf K} {inverse : K → K} {numbers : Numbering
   pub flat-more : (j : ℕ) (s : Set) → AreIndices arr s → closure ring numbers arr (j ∷ closure ring numbers arr s) ≡ closure ring numbers arr (j ∷ s)
   flat-more j s h = flat-cut (j ∷ closure ring numbers arr s) (j ∷ s) (cut-more j (closure ring numbers arr s) s (cut-flat s h))
 
-  -- every set of hyperplanes is one of numbers up to 64
-  pub set-within_word : (s : Set) → IsSetWithin (length arr.forms) s → IsSetWithin 64 s
-  set-within_word s h = set-wider (length arr.forms) 64 s (few (length arr.forms) over.arrangement.few_forms) h
-    where
-      few : (n : ℕ) → n ≤ max_forms → n ≤ 64
-      few n l = omega arith
-
-  -- the set with one member more, and the list with one more in front, have one cut
-  pub cut-with : (s : Set) (j : ℕ) → IsSetWithin (length arr.forms) s → IsIndex arr j → cut ring numbers arr (with_member s j) ≡ cut ring numbers arr (j ∷ s)
-  cut-with s j h r =
-      cut-same (with_member s j) (j ∷ s) (λ i c. with-members s j i c)
-      (λ i c. members-with s j i (set-within_word s h) (low j (length arr.forms) r over.arrangement.few_forms) c)
-    where
-      low : (j n : ℕ) → (1 ≤ j) × (j ≤ n) → n ≤ max_forms → (1 ≤ j) × (j ≤ 64)
-      low j n r l = omega arith
-
-  pub flat-with : (s : Set) (j : ℕ) → IsSetWithin (length arr.forms) s → IsIndex arr j → closure ring numbers arr (with_member s j) ≡ closure ring numbers arr (j ∷ s)
-  flat-with s j h r = flat-cut (with_member s j) (j ∷ s) (cut-with s j h r)
-
   -- ---- flats
 
   -- the closure of a set or of a list of hyperplanes is a flat
   pub IsFlat-flat : (s : Set) → AreIndices arr s → IsFlat ring numbers arr (closure ring numbers arr s)
-  IsFlat-flat s h = (closure ring numbers arr s, flat-set s, sym (flat-idempotent s h))
+  IsFlat-flat s h = (closure ring numbers arr s, flat-set s, has_origin (closure ring numbers arr s), sym (flat-idempotent s h))
 
   -- a flat is its own closure
   pub flat-of_flat : (f : Set) → IsFlat ring numbers arr f → closure ring numbers arr f ≡ f
-  flat-of_flat f h = ap (closure ring numbers arr) h.2 ∙ flat-idempotent h.0 (set-indices arr h.0 h.1) ∙ sym h.2
+  flat-of_flat f h = ap (closure ring numbers arr) h.3 ∙ flat-idempotent h.0 (set-indices arr h.0 h.1) ∙ sym h.3
 
   -- a flat is a set of hyperplanes
   pub IsFlat-set : (f : Set) → IsFlat ring numbers arr f → IsSetWithin (length arr.forms) f
-  IsFlat-set f h = subst (IsSetWithin (length arr.forms)) (sym h.2) (flat-set h.0)
+  IsFlat-set f h = subst (IsSetWithin (length arr.forms)) (sym h.3) (flat-set h.0)

@@ -1,5 +1,5 @@
--- The list of all flats with their ranks has each flat once, in order.
-use Rattle.std.specs.Prelude.{◌≡◌, ◌≢◌, ◌↔◌, ℕ, zero, suc, ◌+◌, ◌<◌, ◌≤◌, ◌==◌, Bool, true, ◌&&◌, List, [], ◌∷◌, map, length, flat_map, Contains}
+-- The list of all flats of an affine arrangement has each flat once, in order; and its rank is that of the linear parts.
+use Rattle.std.specs.Prelude.{◌≡◌, ◌≢◌, ◌↔◌, ℕ, zero, suc, ◌+◌, ◌<◌, ◌≤◌, ◌==◌, Bool, ◌&&◌, List, [], ◌∷◌, map, length, flat_map, Contains}
 use Rattle.std.specs.List.{range_with_len}
 use Rattle.std.specs.List.Sorted.{IsStrictlySortedBy}
 use Rattle.std.specs.declared.cmp.Ordering.{Ordering}
@@ -7,25 +7,28 @@ use Rattle.std.specs.declared.cmp.Ordering.TheVariants.{Less, Equal, Greater}
 use Rattle.std.specs.Ordering.{ordering_then}
 use Rattle.std.specs.FinMap.{nat_cmp-IsAntisymmetric}
 use Rattle.std.specs.Cmp.{IsTotalOrder, nat_cmp_total, on_total, then_total}
-use Rattle.std.proofs.lemmas.Bool.{and_from, eqb-true, eq-eqb}
 use Rattle.std.proofs.lemmas.Cmp.{tied_itself}
+use Rattle.std.proofs.lemmas.Bool.{and_from, eqb-true, eq-eqb}
 use mathlib.Core.Path.{refl, sym, ap, ◌∙◌, subst}
 use native.Mathlib.Omega.{arith}
-use Rattle.hp_algebra.specs.Ring.{RingOf, Numbering}
-use Rattle.hp_lists.specs.Lists.{below, Ordered}
+use Rattle.hp_lists.specs.Lists.{below, Ordered, one_to}
 use Rattle.hp_lists.proofs.Members.{first_true, second_true, Contains-filter, filter-Contains, Contains-map, map-Contains, Contains-flat_map, flat_map-Contains}
 use Rattle.hp_lists.proofs.Ordered.{Ordered-append, Ordered-filter, sorted_of, sorted-ext, Ordered-weaker}
 use Rattle.hp_lists.proofs.Ranges.{range_members, members_below}
-use Rattle.hp_sets.specs.Sets.{Set, IsSetWithin, cmp_listed, is_within, sets_within}
+use Rattle.hp_sets.specs.Sets.{Set, cmp_listed, sets_within}
 use Rattle.hp_sets.specs.ListedOrder.{cmp_listed_same, cmp_listed_total}
 use Rattle.hp_sets.specs.declared.flat.Flat.{Flat}
 use Rattle.hp_sets.proofs.SetLists.{IsListedBefore, sets-complete, sets-rise, nat_less, nat_same}
-use Rattle.hp_sets.proofs.SetWithin.{members-is_within, is_within-antisymm}
-use Rattle.hp_arr.specs.Arrangement.{Arrangement}
-use Rattle.hp_arr.specs.Flats.{closure, rank, IsFlat, is_flat, flats_of_rank, flats, cmp_ranked}
-use Rattle.hp_arr.proofs.OverField.{IsOverField}
-use Rattle.hp_arr.proofs.Cuts.{flat-set, flat-of_flat, IsFlat-set}
+use Rattle.hp_arr.specs.Flats.{cmp_ranked, total_rank, rank, IsFlat, is_flat, flats_of_rank, flats}
+use Rattle.hp_arr.specs.Arrangement.{indices, linear_part}
 use Rattle.hp_arr.proofs.Ranks.{rank-dim}
+use Rattle.hp_arr.proofs.Cuts.{set-indices}
+use Rattle.hp_matroid.proofs.CentralSets.{central-closure}
+use Rattle.hp_matroid.proofs.Expansion.{closure_closure}
+use Rattle.hp_matroid.proofs.RisingSets.{set-from_rises}
+use Rattle.hp_matroid.proofs.Infinity as infinity
+use Rattle.hp_arr.proofs.ConePoints.{AffineSetting, n, cone_over, cone-count}
+use Rattle.hp_arr.proofs.ConeMatroids.{greatest-is, greatest-low, cone_matroid, affine_matroid, central, central-laws, indices-within, rank-matroid, flat-central, central-flat, flat-set, flat-has_point, is_flat-IsFlat, linear-total}
 
 pub cmp_ranked_total : IsTotalOrder cmp_ranked
 cmp_ranked_total = then_total (on_total (λ (f : Flat). f.rank) nat_cmp_total) (on_total (λ (f : Flat). f.set) cmp_listed_total)
@@ -48,16 +51,19 @@ ranked-same f g e =
     both Equal s e = (refl, e)
     both Greater s e = cc
 
-module _ {K : Type 0} {ring : RingOf K} {inverse : K → K} {numbers : Numbering K} {arr : Arrangement K} (over : IsOverField ring inverse numbers arr) where
-  -- the test says whether a set is a flat
-  pub is_flat-IsFlat : (s : Set) → IsSetWithin (length arr.forms) s → (is_flat ring numbers arr s ≡ true) ↔ IsFlat ring numbers arr s
-  unfolding is_flat
-  is_flat-IsFlat s h = (
-    (λ e. (s, h, sym (is_within-antisymm (length arr.forms) (length arr.forms) (closure ring numbers arr s) s (flat-set over s) h (first_true _ _ e) (second_true _ _ e)))),
-    λ f.
-        let w : is_within s s ≡ true = members-is_within s s (λ i c. c) in
-        subst (λ z. (is_within z s && is_within s z) ≡ true) (sym (flat-of_flat over s f)) (and_from _ _ w w),
-  )
+module _ {K : Type 0} (A : AffineSetting K) where
+  open A use {ring, numbers, arr}
+
+  -- the rank of a flat is at most the dimension
+  below-top : (f : Set) → IsFlat ring numbers arr f → suc (rank ring numbers arr f) ≤ (cone_matroid A).rank (one_to (cone_matroid A).size)
+  below-top f is =
+      let c = flat-central A f is in
+      let h = set-indices arr f c.set in
+      subst (λ r. suc r ≤ (cone_matroid A).rank (one_to (cone_matroid A).size)) (sym (rank-matroid A f h (flat-has_point A f is)))
+      (infinity.rank-below (cone_matroid A) (n A) (cone-count A) f (indices-within A f h) c.pointed)
+
+  pub flat-rank_dim : (f : Set) → IsFlat ring numbers arr f → rank ring numbers arr f ≤ arr.dim
+  flat-rank_dim f is = let b = below-top f is in let d = rank-dim (cone_over A) (one_to (cone_matroid A).size) in omega (arith, b, d)
 
   -- ---- the flats of one rank
 
@@ -67,10 +73,10 @@ module _ {K : Type 0} {ring : RingOf K} {inverse : K → K} {numbers : Numbering
     (λ c.
         let d = filter-Contains test (sets_within (length arr.forms)) f c in
         let h = (sets-complete (length arr.forms) f).0 d.0 in
-        ((is_flat-IsFlat f h).0 (first_true _ _ d.1), eqb-true _ _ (second_true _ _ d.1))),
+        ((is_flat-IsFlat A f h).0 (first_true _ _ d.1), eqb-true _ _ (second_true _ _ d.1))),
     λ h.
-        let s = IsFlat-set over f h.0 in
-        Contains-filter test (sets_within (length arr.forms)) f ((sets-complete (length arr.forms) f).1 s) (and_from _ _ ((is_flat-IsFlat f s).1 h.0) (eq-eqb _ _ h.1)),
+        let s = flat-set A f h.0 in
+        Contains-filter test (sets_within (length arr.forms)) f ((sets-complete (length arr.forms) f).1 s) (and_from _ _ ((is_flat-IsFlat A f s).1 h.0) (eq-eqb _ _ h.1)),
   )
     where
       test : Set → Bool
@@ -99,7 +105,7 @@ module _ {K : Type 0} {ring : RingOf K} {inverse : K → K} {numbers : Numbering
         let e : m.0 ≡ f.set = ap (λ (g : Flat). g.set) m.2 in
         (subst (IsFlat ring numbers arr) e h.0, ap (λ (g : Flat). g.rank) (sym m.2) ∙ sym h.1 ∙ ap (rank ring numbers arr) e)),
     λ h.
-        Contains-flat_map with_rank (below (arr.dim + 1)) f.rank f (members_below f.rank (arr.dim + 1) (high f.rank _ arr.dim h.1 (rank-dim over f.set)))
+        Contains-flat_map with_rank (below (arr.dim + 1)) f.rank f (members_below f.rank (arr.dim + 1) (high f.rank _ arr.dim h.1 (flat-rank_dim f.set h.0)))
         (Contains-map (ranked f.rank) (flats_of_rank ring numbers arr f.rank) f.set ((flats_of_rank-complete f.rank f.set).1 (h.0, sym h.1))),
   )
     where
@@ -146,3 +152,53 @@ module _ {K : Type 0} {ring : RingOf K} {inverse : K → K} {numbers : Numbering
   -- So it is the one list that strictly rises and has exactly the flats with their ranks.
   pub flats-unique : (fs : List Flat) → IsStrictlySortedBy cmp_ranked fs → ((f : Flat) → Contains fs f ↔ (IsFlat ring numbers arr f.set × (f.rank ≡ rank ring numbers arr f.set))) → fs ≡ flats ring numbers arr
   flats-unique fs p h = sorted-ext cmp_ranked cmp_ranked_total fs (flats ring numbers arr) p flats-rise (λ f. ((λ c. (flats-complete f).1 ((h f).0 c)), λ c. (h f).1 ((flats-complete f).0 c)))
+
+  -- ---- the rank of the arrangement
+
+  -- some flat has the greatest rank
+  top-flat : (f : Set) × IsFlat ring numbers arr f × (suc (rank ring numbers arr f) ≡ (cone_matroid A).rank (one_to (cone_matroid A).size))
+  top-flat =
+      let M = affine_matroid A in
+      let g = infinity.greatest-central (cone_matroid A) (n A) (cone-count A) in
+      let s = g.0 in
+      let f = M.closure s in
+      let is = central-flat A f (record {
+        set = set-from_rises (n A) f (M.laws.closure_rises s) (M.laws.closure_within s);
+        pointed = central-closure M (central A) (central-laws A) s g.1 ∙ g.2;
+        closed = closure_closure M s;
+      }) in
+      (f, is, ap suc (rank-matroid A f (set-indices arr f (flat-set A f is)) (flat-has_point A f is) ∙ M.laws.rank_closure s g.1) ∙ g.3)
+
+  -- The rank of the arrangement is that of the linear parts of all its rows.
+  pub total-rank : total_rank ring numbers arr ≡ rank ring numbers (linear_part ring arr) (indices (linear_part ring arr))
+  unfolding total_rank
+  total-rank =
+      let t = top-flat in
+      let r = rank ring numbers arr t.0 in
+      let top : Flat = record { rank = r; set = t.0 } in
+      greatest-is (map (λ (f : Flat). f.rank) (flats ring numbers arr)) r
+      (Contains-map (λ (f : Flat). f.rank) (flats ring numbers arr) top ((flats-complete top).1 (t.1, refl)))
+      (λ x c. let w = map-Contains (λ (f : Flat). f.rank) (flats ring numbers arr) x c in let h = (flats-complete w.0).0 w.1 in
+      low x w.0.rank _ _ r w.2 h.1 (below-top w.0.set h.0) t.2)
+      ∙ sym (linear-total A r t.2)
+    where
+      low : (x k m w r : ℕ) → k ≡ x → k ≡ m → suc m ≤ w → suc r ≡ w → x ≤ r
+      low x k m w r e f l g = omega (arith, e, f, l, g)
+
+  -- no flat has a greater rank
+  pub flat-rank_total : (f : Set) → IsFlat ring numbers arr f → rank ring numbers arr f ≤ total_rank ring numbers arr
+  flat-rank_total f is = let b = below-top f is in let t = top-flat in let e = linear-total A (rank ring numbers arr t.0) t.2 in let u = total-rank in low _ _ _ _ _ b t.2 e u
+    where
+      low : (m w r k v : ℕ) → suc m ≤ w → suc r ≡ w → k ≡ r → v ≡ k → m ≤ v
+      low m w r k v b e f g = omega (arith, b, e, f, g)
+
+  -- so it is at most the dimension
+  pub total-rank_dim : total_rank ring numbers arr ≤ arr.dim
+  unfolding total_rank
+  total-rank_dim = greatest-low arr.dim (map (λ (f : Flat). f.rank) (flats ring numbers arr)) (λ x c.
+      let w = map-Contains (λ (f : Flat). f.rank) (flats ring numbers arr) x c in
+      let h = (flats-complete w.0).0 w.1 in
+      low x w.0.rank _ arr.dim w.2 h.1 (flat-rank_dim w.0.set h.0))
+    where
+      low : (x k m d : ℕ) → k ≡ x → k ≡ m → m ≤ d → x ≤ d
+      low x k m d e f l = omega (arith, e, f, l)

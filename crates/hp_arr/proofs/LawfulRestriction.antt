@@ -3,7 +3,7 @@ use Rattle.std.specs.Prelude.{◌≡◌, ◌≢◌, ℕ, zero, suc, ◌+◌, ◌
 use Rattle.std.proofs.Common.{get_or, take, refl, sym, ap, ◌∙◌, subst, inl, inr, arith}
 use Rattle.std.proofs.lemmas.Bool.{false≢true, cases_order, and_parts, and_from, false_from_ne_true}
 use Rattle.std.proofs.lemmas.Option.{slice_get_within, slice_get-get_or, get_or_from_slice_get}
-use Rattle.std.proofs.lemmas.List.{length-map, get_or-map, map_more}
+use Rattle.std.proofs.lemmas.List.{length-map, get_or-map, map_more, take_all}
 use Rattle.std.proofs.lemmas.List.Elements.{All-map, All-take}
 use Rattle.std.proofs.lemmas.List.Edits.{length-remove}
 use Rattle.hp_algebra.specs.Ring.{RingOf, Numbering, IsField}
@@ -11,7 +11,7 @@ use Rattle.hp_lists.specs.Lists.{list_all, list_any}
 use Rattle.hp_algebra.proofs.Rings.{zero_passes, same_from_difference}
 use Rattle.hp_arr.specs.Arrangement.{Arrangement, IsArrangement, form}
 use Rattle.hp_algebra.specs.Rows.{IsRow, IsMultiple, entry, is_zero_row, row_scale, row_minus, same_row}
-use Rattle.hp_arr.specs.Operations.{first_copies, normalised, restricted_form, deletion, restriction}
+use Rattle.hp_arr.specs.Operations.{first_copies, last_place, normalised, restricted_form, deletion}
 use Rattle.hp_algebra.proofs.Rows.{scale-values, row-ext, is_zero_row-at}
 use Rattle.hp_algebra.proofs.RowDifferences.{same_row-self, length-minus_multiple, get_or-minus, minus-values}
 use Rattle.hp_arr.proofs.NonzeroPlaces.{IsLastNonzero, last_nonzero, last_place-is}
@@ -44,9 +44,16 @@ module _ {K : Type 0} {ring : RingOf K} {inverse : K → K} (field : IsField rin
   abbrev pub cleared : List K → List K → ℕ → List K
   cleared a b k = row_minus ring b (row_scale ring (factor a b k) a)
 
+  -- the last place of a form is that of all its entries
+  pub restricted_form-whole : (a b : List K) → restricted_form ring inverse (length a) a b ≡ remove (cleared a b (last_place ring a)) (last_place ring a)
+  restricted_form-whole a b = ap (λ t. remove (cleared a b (last_place ring t)) (last_place ring t)) (take_all (length a) a (same (length a)))
+    where
+      same : (n : ℕ) → n ≤ n
+      same n = omega arith
+
   pub restricted_form-at : (a b : List K) (k : ℕ) → All ring.IsValue a → IsLastNonzero field.is_ring a k
-      → restricted_form ring inverse a b ≡ remove (cleared a b k) k
-  restricted_form-at a b k va at = ap (λ j. remove (cleared a b j) j) (last_place-is field.is_ring a va k at)
+      → restricted_form ring inverse (length a) a b ≡ remove (cleared a b k) k
+  restricted_form-at a b k va at = restricted_form-whole a b ∙ ap (λ j. remove (cleared a b j) j) (last_place-is field.is_ring a va k at)
 
   module _ (a b : List K) (k : ℕ) (va : All ring.IsValue a) (vb : All ring.IsValue b) (e : length b ≡ length a) (at : IsLastNonzero field.is_ring a k) where
     in_b : k < length b
@@ -106,12 +113,12 @@ module _ {K : Type 0} {ring : RingOf K} {inverse : K → K} (field : IsField rin
         ∙ is_zero_row-at field.is_ring (cleared a b k) cleared-values all_zero j (let l = long in omega (arith, l, h)))) in
         apart (factor a b k, factor-value, same))
 
-  pub restricted_form-row : (a b : List K) → All ring.IsValue a → is_zero_row ring a ≡ false → IsRow ring (length a) b → IsRow ring (length a - 1) (restricted_form ring inverse a b)
+  pub restricted_form-row : (a b : List K) → All ring.IsValue a → is_zero_row ring a ≡ false → IsRow ring (length a) b → IsRow ring (length a - 1) (restricted_form ring inverse (length a) a b)
   restricted_form-row a b va nonzero row =
       let at = last_nonzero field.is_ring a va nonzero in
       subst (IsRow ring (length a - 1)) (sym (restricted_form-at a b at.0 va at.1)) (restricted-row a b at.0 va row.1 row.0 at.1)
 
-  pub restricted_form-nonzero : (a b : List K) → All ring.IsValue a → is_zero_row ring a ≡ false → IsRow ring (length a) b → ¬ (IsMultiple ring b a) → is_zero_row ring (restricted_form ring inverse a b) ≡ false
+  pub restricted_form-nonzero : (a b : List K) → All ring.IsValue a → is_zero_row ring a ≡ false → IsRow ring (length a) b → ¬ (IsMultiple ring b a) → is_zero_row ring (restricted_form ring inverse (length a) a b) ≡ false
   restricted_form-nonzero a b va nonzero row apart =
       let at = last_nonzero field.is_ring a va nonzero in
       ap (is_zero_row ring) (restricted_form-at a b at.0 va at.1) ∙ restricted-nonzero a b at.0 va row.1 row.0 at.1 apart
@@ -120,7 +127,7 @@ module _ {K : Type 0} {ring : RingOf K} {inverse : K → K} (field : IsField rin
 
   module _ (a : List K) (others : List (List K)) (can : CanRestrict ring a others) where
     abbrev cut : List K → List K
-    cut b = normalised ring inverse (restricted_form ring inverse a b)
+    cut b = normalised ring inverse (restricted_form ring inverse (length a) a b)
 
     abbrev Good : List K → Type 0
     Good row = IsRow ring (length a - 1) row × IsNormal field row
@@ -214,20 +221,9 @@ module _ {K : Type 0} {ring : RingOf K} {inverse : K → K} (field : IsField rin
           apart = λ k d h. apart_from ring numbers arr lawful i low high k (form arr i) (get_or others k d) (slice_get-get_or others k d h) (slice_get-get_or arr.forms (i - 1) [] inside);
         }
 
-    -- what its parts make
-    pub restriction-from : (d : ℕ) (a : List K) (others rows : List (List K)) → d ≡ arr.dim → a ≡ form arr i → others ≡ (deletion arr i).forms
-        → rows ≡ first_copies ring (map (λ b. normalised ring inverse (restricted_form ring inverse a b)) others) → record { dim = d - 1; forms = rows } ≡ restriction ring inverse arr i
-    unfolding restriction
-    restriction-from d a others rows at_dim at_a at_others at_rows =
-        let all : rows ≡ first_copies ring (map (λ b. normalised ring inverse (restricted_form ring inverse (form arr i) b)) (deletion arr i).forms) =
-        at_rows
-        ∙ ap (λ x. first_copies ring (map (λ b. normalised ring inverse (restricted_form ring inverse x b)) others)) at_a
-        ∙ ap (λ xs. first_copies ring (map (λ b. normalised ring inverse (restricted_form ring inverse (form arr i) b)) xs)) at_others in
-        λ j. record { dim = at_dim j - 1; forms = all j }
-
-    pub restriction-lawful : 2 ≤ arr.dim → IsArrangement ring numbers (restriction ring inverse arr i)
-    unfolding restriction
-    restriction-lawful two =
+    -- the other forms on the hyperplane of form i are lawful
+    pub kept-lawful : 2 ≤ arr.dim → IsArrangement ring numbers (record { dim = arr.dim - 1; forms = first_copies ring (map (λ b. normalised ring inverse (restricted_form ring inverse (length (form arr i)) (form arr i) b)) (deletion arr i).forms) })
+    kept-lawful two =
         let a = form arr i in
         let others = (deletion arr i).forms in
         let can = can_restrict in
@@ -246,9 +242,3 @@ module _ {K : Type 0} {ring : RingOf K} {inverse : K → K} (field : IsField rin
           no_zero = kept-nonzero a others can;
           no_multiple = kept-apart a others can;
         }
-
-    -- what its parts make is lawful
-    pub lawful-from : (d : ℕ) (a : List K) (others rows : List (List K)) → d ≡ arr.dim → a ≡ form arr i → others ≡ (deletion arr i).forms
-        → rows ≡ first_copies ring (map (λ b. normalised ring inverse (restricted_form ring inverse a b)) others) → 2 ≤ arr.dim → IsArrangement ring numbers (record { dim = d - 1; forms = rows })
-    lawful-from d a others rows at_dim at_a at_others at_rows two =
-        subst (IsArrangement ring numbers) (sym (restriction-from d a others rows at_dim at_a at_others at_rows)) (restriction-lawful two)

@@ -1,36 +1,24 @@
--- How the rank grows as members are added: exchange and submodularity; independent sets and bases; how flats lie above one another.
+-- How the rank grows as members are added: exchange and submodularity; independent sets.
 use Rattle.std.specs.Prelude.{◌≡◌, ℕ, suc, ◌+◌, ◌<◌, ◌≤◌, Bool, true, false, not, [], ◌∷◌, ◌++◌, length, filter, Contains, ◌⊎◌}
 use Rattle.std.proofs.lemmas.List.Elements.{Contains-append_left, Contains-append_right}
 use Rattle.std.proofs.lemmas.List.Filters.{length-filter_both}
 use mathlib.Core.Logic.{inl, inr}
-use mathlib.Core.Path.{refl, sym, ap, ◌∙◌, subst}
+use mathlib.Core.Path.{refl, ap, ◌∙◌}
 use native.Mathlib.Omega.{arith}
 use Rattle.hp_algebra.specs.Ring.{RingOf, Numbering}
 use Rattle.hp_lists.proofs.Members.{Contains-here, Contains-later, Contains-filter, filter-Contains}
 use Rattle.hp_lists.proofs.Ordered.{Rises, Ordered-filter, rising-ext}
-use Rattle.hp_sets.specs.Sets.{Set, IsSetWithin, contains, union, meet, with_member}
+use Rattle.hp_sets.specs.Sets.{Set, IsSetWithin, contains, union, meet}
 use Rattle.hp_sets.proofs.Parts.{IsPart, part-more, part-join, part-behind, part-turn}
 use Rattle.hp_sets.proofs.SetLaws.{contains-Contains, Contains-contains}
-use Rattle.hp_sets.proofs.SetMembers.{with-set, union-members, meet-members}
+use Rattle.hp_sets.proofs.SetMembers.{union-members, meet-members}
 use Rattle.hp_arr.specs.Arrangement.{Arrangement}
-use Rattle.hp_arr.specs.Flats.{cut, closure, rank, IsFlat}
+use Rattle.hp_arr.specs.Flats.{closure, rank}
 use Rattle.hp_arr.proofs.OverField.{IsOverField}
-use Rattle.hp_arr.proofs.Cuts.{IsIndex, AreIndices, set-indices, indices-tail, flat-indices, flat-monotone, flat-cut, flat-keeps, flat-with, cut-same, cut-keeps, cut-more, IsFlat-flat, flat-of_flat, IsFlat-set}
-use Rattle.hp_arr.proofs.Ranks.{rank-cut, rank-flat, rank-monotone, rank-low, rank-adds, rank-keeps, in_flat, rank-step, rank-with}
-use Rattle.hp_arr.proofs.FlatGrowth.{flat-grows}
+use Rattle.hp_arr.proofs.Cuts.{IsIndex, AreIndices, set-indices, indices-tail, flat-indices, flat-monotone, cut-same}
+use Rattle.hp_arr.proofs.Ranks.{rank-cut, rank-monotone, rank-low, rank-adds, rank-keeps, in_flat, rank-step}
 
 module _ {K : Type 0} {ring : RingOf K} {inverse : K → K} {numbers : Numbering K} {arr : Arrangement K} (over : IsOverField ring inverse numbers arr) where
-  -- ---- one member more
-
-  pub rank-with_outside : (s : Set) (j : ℕ) → IsSetWithin (length arr.forms) s → IsIndex arr j → (Contains (closure ring numbers arr s) j → ⊥) → rank ring numbers arr (with_member s j) ≡ suc (rank ring numbers arr s)
-  rank-with_outside s j h r out = rank-with over s j h r ∙ rank-adds over s j r out
-
-  pub rank-with_inside : (s : Set) (j : ℕ) → IsSetWithin (length arr.forms) s → Contains (closure ring numbers arr s) j → rank ring numbers arr (with_member s j) ≡ rank ring numbers arr s
-  rank-with_inside s j h c = rank-with over s j h (flat-indices over s j c) ∙ rank-keeps over s j c
-
-  pub flat-with_inside : (s : Set) (j : ℕ) → IsSetWithin (length arr.forms) s → Contains (closure ring numbers arr s) j → closure ring numbers arr (with_member s j) ≡ closure ring numbers arr s
-  flat-with_inside s j h c = flat-with over s j h (flat-indices over s j c) ∙ flat-keeps over s j c
-
   -- Exchange: where j comes into the closure with i, i comes into it with j.
   pub exchange : (s : Set) (i j : ℕ) → IsIndex arr i → Contains (closure ring numbers arr (i ∷ s)) j → (Contains (closure ring numbers arr s) j → ⊥) → Contains (closure ring numbers arr (j ∷ s)) i
   exchange s i j ri c out = step (in_flat over (j ∷ s) i)
@@ -126,100 +114,3 @@ module _ {K : Type 0} {ring : RingOf K} {inverse : K → K} {numbers : Numbering
           step : (b : Bool) → contains s i ≡ b → Contains (filter (λ i. not (contains s i)) t ++ s) i
           step true e = Contains-append_right (filter (λ i. not (contains s i)) t) s i (contains-Contains s i e)
           step false e = Contains-append_left (filter (λ i. not (contains s i)) t) s i (Contains-filter (λ i. not (contains s i)) t i c (ap not e))
-
--- an independent part with the same cut
-pub record IsBasis {K : Type 0} (ring : RingOf K) (numbers : Numbering K) (arr : Arrangement K) (s t : Set) : Type 0 where
-  pub part : IsPart t s
-  pub independent : rank ring numbers arr t ≡ length t
-  pub same_cut : cut ring numbers arr t ≡ cut ring numbers arr s
-  pub rises : Rises s → Rises t
-
--- what a flat g of the next rank is made of
-pub record IsMadeOf {K : Type 0} (ring : RingOf K) (numbers : Numbering K) (arr : Arrangement K) (r : ℕ) (g f : Set) (j : ℕ) : Type 0 where
-  pub is_flat : IsFlat ring numbers arr f
-  pub has_rank : rank ring numbers arr f ≡ r
-  pub index : IsIndex arr j
-  pub outside : Contains f j → ⊥
-  pub makes : g ≡ closure ring numbers arr (with_member f j)
-
-module _ {K : Type 0} {ring : RingOf K} {inverse : K → K} {numbers : Numbering K} {arr : Arrangement K} (over : IsOverField ring inverse numbers arr) where
-  -- every set has a basis: leave out each member that lies in the closure of the ones kept after it
-  pub basis : (s : Set) → AreIndices arr s → (t : Set) × IsBasis ring numbers arr s t
-  basis [] h = ([], record { part = λ i c. c; independent = none (rank ring numbers arr []) (rank-low over []); same_cut = refl; rises = λ p. p })
-    where
-      none : (a : ℕ) → a ≤ 0 → a ≡ 0
-      none a l = omega arith
-  basis (i ∷ s) h = step (basis s (indices-tail arr i s h))
-    where
-      pick : (t : Set) → IsBasis ring numbers arr s t → Contains (closure ring numbers arr t) i ⊎ (Contains (closure ring numbers arr t) i → ⊥) → (t : Set) × IsBasis ring numbers arr (i ∷ s) t
-      pick t b (inl c) = (
-        t,
-        record {
-          part = λ j d. Contains-later i s j (b.part j d);
-          independent = b.independent;
-          same_cut = sym (cut-keeps over t i c) ∙ cut-more over i t s b.same_cut;
-          rises = λ p. b.rises p.1;
-        },
-      )
-      pick t b (inr c) = (
-        i ∷ t,
-        record {
-          part = part-more i t s b.part;
-          independent = independent-more over i t (h i (Contains-here i s)) b.independent c;
-          same_cut = cut-more over i t s b.same_cut;
-          rises = λ p. ((λ j d. p.0 j (b.part j d)), b.rises p.1);
-        },
-      )
-
-      step : (t : Set) × IsBasis ring numbers arr s t → (t : Set) × IsBasis ring numbers arr (i ∷ s) t
-      step b = pick b.0 b.1 (in_flat over b.0 i)
-
-  -- ---- flats above one another
-
-  -- A flat with a further form is a flat of the next rank.
-  pub flat-above : (f : Set) (j : ℕ) → IsFlat ring numbers arr f → IsIndex arr j → (Contains f j → ⊥)
-      → IsFlat ring numbers arr (closure ring numbers arr (with_member f j)) × (rank ring numbers arr (closure ring numbers arr (with_member f j)) ≡ suc (rank ring numbers arr f))
-  flat-above f j h r out =
-      let s = IsFlat-set over f h in
-      let w = with-set (length arr.forms) f j s r.1 in (
-        (with_member f j, w, refl),
-        rank-flat over (with_member f j) (set-indices arr (with_member f j) w)
-            ∙ rank-with_outside over f j s r (λ c. out (subst (λ z. Contains z j) (flat-of_flat over f h) c)),
-      )
-
-  -- Every flat of rank r + 1 is made so of one of rank r: the flats of each rank are found from those of the rank before.
-  pub flat-below : (g : Set) (r : ℕ) → IsFlat ring numbers arr g → rank ring numbers arr g ≡ suc r → (f : Set) × (j : ℕ) × IsMadeOf ring numbers arr r g f j
-  flat-below g r h e = step (basis g g_indices)
-    where
-      g_indices : AreIndices arr g
-      g_indices = set-indices arr g (IsFlat-set over g h)
-
-      less : (a b r : ℕ) → suc a ≡ b → b ≡ suc r → a ≡ r
-      less a b r p q = omega arith
-
-      made : (j : ℕ) (t : Set) → IsBasis ring numbers arr g (j ∷ t) → (f : Set) × (j : ℕ) × IsMadeOf ring numbers arr r g f j
-      made j t b =
-          let i : AreIndices arr (j ∷ t) = λ k c. g_indices k (b.part k c) in
-          let it = indices-tail arr j t i in
-          let d = independent-tail over j t i b.independent in
-          let rj = i j (Contains-here j t) in (
-            closure ring numbers arr t,
-            j,
-            record {
-              is_flat = IsFlat-flat over t it;
-              has_rank = rank-flat over t it ∙ d.0 ∙ less (length t) _ r (sym b.independent ∙ rank-cut over (j ∷ t) g b.same_cut) e;
-              index = rj;
-              outside = d.1;
-              makes = sym (flat-of_flat over g h) ∙ flat-cut over g (j ∷ t) (sym b.same_cut) ∙ sym (flat-grows over t j it rj);
-            },
-          )
-
-      clash : (a : ℕ) → 0 ≡ a → a ≡ suc r → ⊥
-      clash a p q = omega arith
-
-      pick : (t : Set) → IsBasis ring numbers arr g t → (f : Set) × (j : ℕ) × IsMadeOf ring numbers arr r g f j
-      pick [] b = absurd (clash _ (sym b.independent ∙ rank-cut over [] g b.same_cut) e)
-      pick (j ∷ t) b = made j t b
-
-      step : (t : Set) × IsBasis ring numbers arr g t → (f : Set) × (j : ℕ) × IsMadeOf ring numbers arr r g f j
-      step b = pick b.0 b.1

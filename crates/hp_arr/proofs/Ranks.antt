@@ -8,18 +8,18 @@ use native.Mathlib.Omega.{arith}
 use Rattle.hp_algebra.specs.Ring.{RingOf, Numbering}
 use Rattle.hp_lists.proofs.Members.{first_true, second_true, not_both, Contains-cases, all-from, decide, filter-shorter}
 use Rattle.hp_lists.proofs.Ranges.{members_range}
-use Rattle.hp_sets.specs.Sets.{Set, IsSetWithin, contains, is_within, is_properly_within, with_member}
+use Rattle.hp_sets.specs.Sets.{Set, contains, is_within, is_properly_within}
 use Rattle.hp_sets.proofs.Parts.{IsPart}
 use Rattle.hp_sets.proofs.SetLaws.{contains-Contains, Contains-contains}
 use Rattle.hp_sets.proofs.SetWithin.{is_within-members}
 use Rattle.hp_arr.specs.Arrangement.{Arrangement, lies_in, indices}
-use Rattle.hp_arr.specs.Flats.{points, cut, closure, rank, total_rank, IsFlat}
+use Rattle.hp_arr.specs.Flats.{points, cut, closure, rank, IsFlat}
 use Rattle.hp_lists.proofs.Powers.{exponents}
 use Rattle.hp_arr.proofs.OverField.{IsOverField, field_of}
 use Rattle.hp_arr.proofs.SpacePoints.{points-rows, rows-points}
 use Rattle.hp_algebra.proofs.Elements.{two_elements}
 use Rattle.hp_arr.proofs.Counting.{lies_in_all, cut-divides, cut-exponent, exponent_low, rank-spec}
-use Rattle.hp_arr.proofs.Cuts.{IsIndex, AreIndices, members-flat, flat-indices, lies-part, cut-flat, cut-keeps, cut-with, flat-of_flat}
+use Rattle.hp_arr.proofs.Cuts.{IsIndex, AreIndices, members-flat, flat-indices, lies-part, cut-flat, cut-keeps, flat-of_flat}
 
 module _ {K : Type 0} {ring : RingOf K} {inverse : K → K} {numbers : Numbering K} {arr : Arrangement K} (over : IsOverField ring inverse numbers arr) where
   two : 2 ≤ numbers.order
@@ -107,13 +107,8 @@ module _ {K : Type 0} {ring : RingOf K} {inverse : K → K} {numbers : Numbering
       step (inl c) = let e = rank-keeps s j c in omega arith
       step (inr c) = let e = rank-adds s j h c in omega arith
 
-  -- the same of the set with one member more
-  pub rank-with : (s : Set) (j : ℕ) → IsSetWithin (length arr.forms) s → IsIndex arr j → rank ring numbers arr (with_member s j) ≡ rank ring numbers arr (j ∷ s)
-  rank-with s j h r = rank-cut (with_member s j) (j ∷ s) (cut-with over s j h r)
-
   -- no set has a greater rank than all hyperplanes
-  pub rank-total : (s : Set) → AreIndices arr s → rank ring numbers arr s ≤ total_rank ring numbers arr
-  unfolding total_rank
+  pub rank-total : (s : Set) → AreIndices arr s → rank ring numbers arr s ≤ rank ring numbers arr (indices arr)
   rank-total s h = rank-monotone s (indices arr) (λ i c. let r = h i c in members_range i 1 (length arr.forms) r.0 (low i (length arr.forms) r))
     where
       low : (j n : ℕ) → (1 ≤ j) × (j ≤ n) → j < 1 + n
@@ -124,7 +119,7 @@ module _ {K : Type 0} {ring : RingOf K} {inverse : K → K} {numbers : Numbering
   rank-strict f g hf hg p = step (decide (λ i. true) (contains f) g)
     where
       inside_g : AreIndices arr g
-      inside_g i c = flat-indices over hg.0 i (subst (λ z. Contains z i) hg.2 c)
+      inside_g i c = flat-indices over hg.0 i (subst (λ z. Contains z i) hg.3 c)
 
       part : IsPart f g
       part i c = is_within-members f g i (first_true _ _ p) c

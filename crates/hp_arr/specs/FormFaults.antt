@@ -1,5 +1,5 @@
--- The fault of a list of forms.
-use Rattle.std.specs.Prelude.{ℕ, ◌-◌, nat_lt, nat_le, if◌then◌else◌, ◌||◌, List, [], ◌∷◌, map, length, Option, Some, None, option_map, find, slice_index_or}
+-- The fault of a list of forms, and of rows with constants.
+use Rattle.std.specs.Prelude.{ℕ, ◌-◌, nat_lt, nat_le, if◌then◌else◌, ◌||◌, List, [], ◌∷◌, map, take, length, Option, Some, None, option_map, find, slice_index_or}
 use Rattle.hp_algebra.specs.Ring.{RingOf, Numbering}
 use Rattle.hp_lists.specs.Lists.{one_to, first_some}
 use Rattle.hp_arr.specs.Arrangement.{max_forms}
@@ -36,3 +36,7 @@ module _ {K : Type 0} (ring : RingOf K) (numbers : Numbering K) where
   -- the first fault in this order: a form is zero, two are proportional, there are too many
   abbrev pub form_fault : List (List K) → Option ArrFault
   form_fault rows = first_some (zero_fault ring rows ∷ repeated_fault rows ∷ too_many_fault numbers rows ∷ [])
+
+  -- The first fault of rows of l coefficients and a constant, in this order: the coefficients are all zero, two rows are proportional, there are too many
+  abbrev pub affine_fault : ℕ → List (List K) → Option ArrFault
+  affine_fault l rows = first_some (zero_fault ring (map (take l) rows) ∷ repeated_fault rows ∷ too_many_fault numbers rows ∷ [])

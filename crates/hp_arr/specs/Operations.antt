@@ -1,11 +1,11 @@
 -- Deletion, restriction and cone.
-use Rattle.std.specs.Prelude.{ℕ, ◌+◌, ◌-◌, not, List, [], ◌∷◌, ◌++◌, map, filter, length, remove, reverse}
+use Rattle.std.specs.Prelude.{ℕ, ◌+◌, ◌-◌, not, List, [], ◌∷◌, ◌++◌, map, filter, take, length, remove, reverse}
 use Rattle.hp_algebra.specs.Ring.{RingOf}
 use Rattle.hp_lists.specs.Lists.{below, first_of_list}
 use Rattle.hp_arr.specs.Arrangement.{Arrangement, form}
-use Rattle.hp_algebra.specs.Rows.{entry, row_scale, row_minus, same_row, unit_row}
+use Rattle.hp_algebra.specs.Rows.{entry, is_zero_row, row_scale, row_minus, same_row, unit_row}
 
--- the arrangement without form i
+-- the arrangement without row i
 abbrev pub deletion : {K : Type 0} → Arrangement K → ℕ → Arrangement K
 deletion arr i = record { dim = arr.dim; forms = remove arr.forms (i - 1) }
 
@@ -33,15 +33,16 @@ module _ {K : Type 0} (ring : RingOf K) where
     abbrev pub normalised : List K → List K
     normalised row = row_scale ring (inverse (entry ring row (first_place row))) row
 
-    -- The form b on the hyperplane a = 0. With j the last place of a, x_j is put in terms of the other variables: b - (b_j / a_j) a, without its entry j.
-    abbrev pub restricted_form : List K → List K → List K
-    restricted_form a b =
-        let j = last_place a in
+    -- The row b on the hyperplane of the row a. With j the last place of the coefficients of a, x_j is put in terms of the other variables: b - (b_j / a_j) a, without its entry j.
+    abbrev pub restricted_form : ℕ → List K → List K → List K
+    restricted_form dim a b =
+        let j = last_place (take dim a) in
         remove (row_minus ring b (row_scale ring (mul (entry ring b j) (inverse (entry ring a j))) a)) j
 
-    -- the other hyperplanes cut with H_i, in the coordinates of H_i
+    -- the other hyperplanes cut with H_i, in the coordinates of H_i, without those that do not meet it
     unfoldable pub restriction : Arrangement K → ℕ → Arrangement K
     restriction arr i = record {
       dim = arr.dim - 1;
-      forms = first_copies (map (λ b. normalised (restricted_form (form arr i) b)) (deletion arr i).forms);
+      forms = first_copies (map normalised (filter (λ b. not (is_zero_row ring (take (arr.dim - 1) b)))
+          (map (restricted_form arr.dim (form arr i)) (deletion arr i).forms)));
     }

@@ -1,8 +1,13 @@
 -- Words of the search for the least point off, which finds one coordinate after another.
-use Rattle.std.specs.Prelude.{◌≡◌, ◌<◌, List, [], ◌∷◌, ◌++◌, All, length, drop}
+use Rattle.std.specs.Prelude.{◌≡◌, ℕ, ◌<◌, List, [], ◌∷◌, ◌++◌, All, length, take, drop}
 use Rattle.hp_algebra.specs.Ring.{RingOf, Numbering, dot_of}
+use Rattle.hp_algebra.specs.Rows.{entry}
 
 module _ {K : Type 0} (ring : RingOf K) where
+  -- the constant in front, then the coefficients
+  abbrev pub constant_first : ℕ → List K → List K
+  constant_first dim row = entry ring row dim ∷ take dim row
+
   -- the form is zero at the prefix and has no coefficient behind it, so it is zero at every point that begins so
   pub record IsClosed (prefix form : List K) : Type 0 where
     pub value : dot_of ring form prefix ≡ ring.zero

@@ -1,4 +1,4 @@
-//! An arrangement of hyperplanes: a dimension and a list of linear forms.
+//! A central arrangement of hyperplanes: a dimension and a list of linear forms.
 
 ghost use Rattle.std.specs.Prelude.{◌≡◌, ◌↔◌, ◌⊎◌, ◌+◌, ◌-◌, ◌≤◌, ◌<◌, ◌^◌, [], IfOk, IfErr, OnOk, IsTrue, None, Some, All, length, map};
 ghost use Rattle.hp_arr.specs.Arrangement.{IsArrangement, max_dim, form, value, IsLeastPointOff, HasLeastPointOff};
@@ -15,7 +15,7 @@ use hp_algebra::{FiniteField, List, NoMem, form_value};
 use std::alloc::Global;
 use std::marker::Model;
 
-/// An arrangement over the field `K`: a dimension from 1 to `MAX_DIM`, and at most `MAX_FORMS` linear forms, fewer
+/// A central arrangement over the field `K`: a dimension from 1 to `MAX_DIM`, and at most `MAX_FORMS` linear forms, fewer
 /// than the field has elements, of which none is zero and none a multiple of another. Hyperplane H_i is the set of
 /// the points where form i is zero, with i from 1.
 #[derive(Drop)]

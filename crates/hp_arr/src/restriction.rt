@@ -1,6 +1,6 @@
 //! The forms of a restriction: the other forms in the coordinates of one hyperplane.
 
-ghost use Rattle.std.specs.Prelude.{◌≡◌, ◌<◌, if◌then◌else◌, IfOk, IsFalse, All, length, map, List, [], ◌∷◌, ◌++◌};
+ghost use Rattle.std.specs.Prelude.{◌≡◌, ◌<◌, if◌then◌else◌, IfOk, IsFalse, All, length, map, remove, List, [], ◌∷◌, ◌++◌};
 ghost use Rattle.hp_lists.specs.Lists.{list_any};
 ghost use Rattle.hp_algebra.specs.Rows.{IsRow, IsMultiple, entry, is_zero_row, row_minus, row_scale, same_row};
 ghost use Rattle.hp_arr.specs.Operations.{first_copies, last_place, normalised, restricted_form};
@@ -23,7 +23,7 @@ pub fn restricted_forms<K: Field>(
     requires nonzero { IsFalse (is_zero_row K.ring a.now) }
     requires rows { All (IsRow K.ring (length a.now)) others.now }
     requires apart { All (λ b. ¬ (IsMultiple K.ring b a.now)) others.now }
-    ensures { let restricted = λ (b : List K). normalised K.ring K.inverse (restricted_form K.ring K.inverse a.now b) in
+    ensures { let restricted = λ (b : List K). normalised K.ring K.inverse (restricted_form K.ring K.inverse (length a.now) a.now b) in
         IfOk result (λ kept. kept.items ≡ first_copies K.ring (map restricted others.now)) }
 {
     let (place, inverse) = last_entry(a);
@@ -36,7 +36,7 @@ pub fn restricted_forms<K: Field>(
 }
 
 /// The last place at which the row is not zero, counted from 0, and the inverse of the entry there.
-fn last_entry<K: Field>(row: &[K]) -> (usize, K)
+pub fn last_entry<K: Field>(row: &[K]) -> (usize, K)
     requires values { All K.ring.IsValue row.now }
     requires nonzero { IsFalse (is_zero_row K.ring row.now) }
     ensures within { result.0 < length row.now }
@@ -51,8 +51,9 @@ fn last_entry<K: Field>(row: &[K]) -> (usize, K)
     unreachable!()
 }
 
-/// Form b on the hyperplane a = 0: without the variable at the place, which is put in terms of the others.
-fn restricted_form<K: Field>(
+/// Form b on the hyperplane a = 0: without the variable at the place, which is put in terms of the others. The inverse is
+/// that of the entry of a at the place.
+pub fn restricted_form<K: Field>(
     alloc: Global,
     a: &[K],
     place: usize,
@@ -61,9 +62,8 @@ fn restricted_form<K: Field>(
 ) -> Result<Vec<K>, NoMem>
     requires widths { length b.now ≡ length a.now }
     requires within { place < length a.now }
-    requires place { place ≡ last_place K.ring a.now }
-    requires inverse { inverse ≡ K.inverse (entry K.ring a.now (last_place K.ring a.now)) }
-    ensures { IfOk result (λ row. row.items ≡ restricted_form K.ring K.inverse a.now b.now) }
+    ensures { let c = K.ring.mul (entry K.ring b.now place) inverse in
+        IfOk result (λ row. row.items ≡ remove (row_minus K.ring b.now (row_scale K.ring c a.now)) place) }
 {
     let mut row = minus_multiple(alloc, b, b[place].times(inverse), a)?;
     row.remove(place);
@@ -83,7 +83,7 @@ fn minus_multiple<K: Field>(alloc: Global, b: &[K], c: K, a: &[K]) -> Result<Vec
 }
 
 /// Puts the row behind the rows, unless it is one of them.
-fn push_if_new<K: Field>(rows: &mut Vec<List<K>>, row: Vec<K>) -> Result<(), NoMem>
+pub fn push_if_new<K: Field>(rows: &mut Vec<List<K>>, row: Vec<K>) -> Result<(), NoMem>
     ensures { let old = rows.old.items in
         IfOk result (λ _. rows.new.items ≡ (if list_any (same_row K.ring row.items) old then old else old ++ row.items ∷ [])) }
 {

@@ -1,4 +1,6 @@
 pub mod Broken
+pub mod CentralCovers
+pub mod CentralMinors
 pub mod CentralSets
 pub mod CentralTriples
 pub mod Coatoms

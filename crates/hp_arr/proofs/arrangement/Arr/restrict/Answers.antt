@@ -2,7 +2,8 @@ use Rattle.std.proofs.Common.{◌≡◌, List, All, sym, ap, ◌∙◌, subst}
 use Rattle.hp_arr.specs.Arrangement.{form}
 use Rattle.hp_algebra.specs.Rows.{IsMultiple, is_zero_row}
 use Rattle.hp_arr.specs.Operations.{deletion}
-use Rattle.hp_arr.proofs.LawfulRestriction.{can_restrict, restriction-from, lawful-from}
+use Rattle.hp_arr.proofs.LawfulRestriction.{can_restrict}
+use Rattle.hp_arr.proofs.CentralRestriction.{restriction-from, lawful-from}
 use Rattle.hp_arr.proofs.arrangement.Arr.restrict.Goals as goal
 
 pub restricted_forms-requires-clause-nonzero : goal.restricted_forms-requires-clause-nonzero
