@@ -1,21 +1,21 @@
 -- A cover that is put to the flats of its rank.
-use Rattle.std.proofs.Common.{◌≡◌, ◌⊎◌, ◌↔◌, ℕ, ◌<◌, List, ◌∷◌, length, Contains, sym, subst, ◌∙◌, arith, inl, inr, true}
+use Rattle.std.proofs.Common.{◌≡◌, ◌⊎◌, ℕ, ◌<◌, List, ◌∷◌, length, Contains, sym, subst, arith, inl, inr, ◌↔◌, ◌∙◌, true}
 use Rattle.std.specs.BTreeMap.{insert_entry, is_at}
 use Rattle.std.specs.List.Sorted.{IsStrictlySortedBy}
 use Rattle.std.specs.Map.{keys_of, lookup}
-use Rattle.std.specs.Option.{is_some}
 use Rattle.std.proofs.lemmas.List.{length-map}
 use Rattle.hp_lists.proofs.Members.{Contains-cases, Contains-map, map-Contains}
 use Rattle.hp_lists.proofs.Distinct.{sorted-distinct}
 use Rattle.hp_lists.proofs.Insertions.{once-few}
 use Rattle.hp_lists.proofs.MapInsertions.{entry-cases, key-here, key-stays, lookup-key}
 use Rattle.hp_arr.specs.Flats.{flats_of_rank}
-use Rattle.hp_arr.proofs.FlatList.{flats_of_rank-complete}
-use Rattle.hp_arr.proofs.Setting.{Setting, over}
 use Rattle.hp_sets.specs.Sets.{Set, cmp_listed}
 use Rattle.hp_sets.specs.ListedOrder.{cmp_listed_same, cmp_listed_total}
 use Rattle.hp_flats.specs.Levels.{IsEntry, AreOfRank}
+use Rattle.hp_arr.proofs.ConePoints.{AffineSetting}
+use Rattle.hp_arr.proofs.FlatList.{flats_of_rank-complete}
 use Rattle.hp_flats.proofs.RankLevels.{entries-flats}
+use Rattle.std.specs.Option.{is_some}
 
 module _ {V : Type 0} (es : List (Set × V)) (cover : Set) (v : V) where
   -- the sets are those that were there and the cover
@@ -41,9 +41,9 @@ module _ {V : Type 0} (es : List (Set × V)) (cover : Set) (v : V) where
   pub put-there : (is_some (lookup (is_at (cmp_listed cover)) es) ≡ true) ↔ Contains (keys_of es) cover
   put-there = lookup-key cmp_listed cmp_listed_total cmp_listed_same cover es
 
-module _ {K : Type 0} (S : Setting K) (r : ℕ) (es : List (Set × List (List K))) (cover : Set) (rows : List (List K))
-    (are : AreOfRank S.ring S.numbers S.arr r es) (is : IsEntry S.ring S.numbers S.arr r cover rows) where
-  open S use {ring, inverse, numbers, arr, field, num, lawful}
+module _ {K : Type 0} (A : AffineSetting K) (r : ℕ) (es : List (Set × List (List K))) (cover : Set) (rows : List (List K))
+    (are : AreOfRank A.ring A.numbers A.arr r es) (is : IsEntry A.ring A.numbers A.arr r cover rows) where
+  open A use {ring, numbers, arr}
 
   pub put-next : IsStrictlySortedBy cmp_listed (keys_of (insert_entry cmp_listed es cover rows))
       → AreOfRank ring numbers arr r (insert_entry cmp_listed es cover rows)
@@ -62,5 +62,5 @@ module _ {K : Type 0} (S : Setting K) (r : ℕ) (es : List (Set × List (List K)
       omega (arith, l, length-map es (λ (e : Set × List (List K)). e.0))
     where
       pick : (g : Set) → (cover ≡ g) ⊎ Contains (keys_of es) g → Contains (flats_of_rank ring numbers arr r) g
-      pick g (inl e) = subst (Contains (flats_of_rank ring numbers arr r)) e ((flats_of_rank-complete (over S) r cover).1 (is.is_flat, is.has_rank))
-      pick g (inr c) = entries-flats S r es are g c
+      pick g (inl e) = subst (Contains (flats_of_rank ring numbers arr r)) e ((flats_of_rank-complete A r cover).1 (is.is_flat, is.has_rank))
+      pick g (inr c) = entries-flats A r es are g c

@@ -1,6 +1,6 @@
-pub mod CoverLoop
+pub mod ClassValues
+pub mod ConeKernels
 pub mod CoverPuts
-pub mod CoverSets
 pub mod CoverSteps
 pub mod CutKernels
 pub mod RankLevels

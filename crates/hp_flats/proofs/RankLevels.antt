@@ -1,109 +1,75 @@
--- The flats rank by rank: the first level, the next one, and the list of all flats.
-use Rattle.std.proofs.Common.{◌≡◌, ◌⊎◌, ℕ, zero, suc, ◌+◌, ◌-◌, ◌<◌, ◌≤◌, true, List, [], ◌∷◌, ◌++◌, map, flat_map, length, slice_index_or, All, Contains, refl, sym, ap, subst, ◌∙◌, arith, inl, inr}
+-- The flats of an affine arrangement rank by rank: the first level, the next one, and the list of all flats.
+use Rattle.std.proofs.Common.{◌≡◌, ◌⊎◌, ℕ, zero, suc, ◌+◌, ◌-◌, ◌<◌, ◌≤◌, ◌==◌, true, false, not, List, [], ◌∷◌, ◌++◌, map, flat_map, length, slice_index_or, Contains, refl, sym, ap, subst, ◌∙◌, arith, inl, inr}
 use Rattle.std.specs.List.{range_with_len}
 use Rattle.std.specs.List.Sorted.{IsStrictlySortedBy}
 use Rattle.std.specs.Map.{keys_of}
 use Rattle.std.proofs.lemmas.Grind.{flat_map-append}
 use Rattle.std.proofs.lemmas.List.{length-map, length-append, append-nil}
-use Rattle.hp_algebra.specs.Ring.{IsRing, dot_of}
-use Rattle.hp_lists.specs.Lists.{below, one_to, list_all}
-use Rattle.hp_lists.proofs.Members.{not_both, Contains-here, Contains-cases, Contains-none, Contains-map, map-Contains}
-use Rattle.hp_lists.proofs.Ranges.{members_range}
+use Rattle.hp_lists.specs.Lists.{below, one_to}
+use Rattle.hp_lists.proofs.Members.{not_both, Contains-here, Contains-cases, Contains-none, map-Contains}
 use Rattle.hp_lists.proofs.Removals.{map-same}
 use Rattle.hp_lists.proofs.Ordered.{sorted_of, sorted-ext}
-use Rattle.hp_algebra.specs.Rows.{IsRow, zero_row, unit_row, is_zero_row}
-use Rattle.hp_algebra.proofs.Dots.{dot-zeros}
-use Rattle.hp_algebra.proofs.UnitRows.{unit-row, unit-dot}
-use Rattle.hp_algebra.proofs.Rows.{zero_row-ext}
-use Rattle.hp_sets.specs.Sets.{Set, cmp_listed}
+use Rattle.hp_algebra.specs.Rows.{unit_row}
+use Rattle.hp_sets.specs.Sets.{Set, cmp_listed, contains}
 use Rattle.hp_sets.specs.ListedOrder.{cmp_listed_total}
 use Rattle.hp_sets.specs.declared.flat.Flat.{Flat}
 use Rattle.hp_sets.proofs.SetLaws.{empty-set}
-use Rattle.hp_arr.specs.Arrangement.{form, lies_in}
-use Rattle.hp_arr.specs.Flats.{closure, rank, IsFlat, flats, flats_of_rank}
-use Rattle.hp_arr.proofs.Setting.{Setting, over}
-use Rattle.hp_arr.proofs.Closing.{zero_row-all}
-use Rattle.hp_arr.proofs.Cuts.{IsIndex, flat-members}
-use Rattle.hp_arr.proofs.FlatList.{flats_of_rank-complete, flats_of_rank-rise}
-use Rattle.hp_arr.proofs.Matroid.{flat-below}
-use Rattle.hp_arr.proofs.Ranks.{rank-low, rank-strict, rank-dim}
+use Rattle.hp_arr.specs.Flats.{rank, IsFlat, flats, flats_of_rank}
+use Rattle.hp_arr.proofs.Cuts.{set-indices}
+use Rattle.hp_matroid.specs.Matroids.{Within, Matroid}
+use Rattle.hp_matroid.proofs.Subsets.{head_in, or_right, within-cons}
+use Rattle.hp_matroid.proofs.RisingLists.{is_within-from}
+use Rattle.hp_matroid.proofs.RisingSets.{set-from_rises}
+use Rattle.hp_matroid.proofs.Coatoms.{flat-same}
+use Rattle.hp_matroid.proofs.CentralSets.{central-down}
+use Rattle.hp_flats.specs.Levels.{values_of, IsEntry, AreOfRank, IsLevel, flats_below}
 use Rattle.hp_flats.specs.Covers.{IsCover}
-use Rattle.hp_flats.specs.Levels.{values_of, IsPointOf, HasValues, IsEntry, AreOfRank, IsLevel, flats_below}
-use Rattle.hp_flats.proofs.CutKernels.{lies-zero}
-use Rattle.hp_flats.proofs.CoverLoop.{made-cover}
-use Rattle.hp_flats.proofs.ValuePoints.{row-of}
+use Rattle.hp_arr.proofs.ConePoints.{AffineSetting, n, coned}
+use Rattle.hp_arr.proofs.ConeMatroids.{affine_matroid, cone_matroid, central, central-laws, indices-within, rank-matroid, flat-central, central-flat, flat-set, flat-has_point}
+use Rattle.hp_arr.proofs.FlatList.{flats_of_rank-complete, flats_of_rank-rise, flat-rank_dim}
+use Rattle.hp_flats.proofs.ClassValues.{first-cone_values}
 
 -- the flat of an entry of the level of rank r
 abbrev pub of_rank : {V : Type 0} → ℕ → Set × V → Flat
 of_rank r e = record { rank = r; set = e.0 }
 
-module _ {K : Type 0} (S : Setting K) where
-  open S use {ring, inverse, numbers, arr, field, num, lawful}
+module _ {K : Type 0} (A : AffineSetting K) where
+  open A use {ring, numbers, arr}
 
-  L : IsRing ring
-  L = S.field.is_ring
+  abbrev M : Matroid
+  M = affine_matroid A
 
   -- ---- the first level
 
-  abbrev unit : ℕ → List K
-  unit k = unit_row S.ring S.arr.dim k
-
-  -- a row that is zero at each is zero
-  unit-zeros : (a : List K) → IsRow ring arr.dim a
-      → ((k : ℕ) → k < arr.dim → dot_of ring a (unit (k + 1)) ≡ ring.zero) → a ≡ zero_row ring arr.dim
-  unit-zeros a ra h = zero_row-ext L arr.dim a ra.0 (λ k l. sym (unit-dot L arr.dim a k ra l) ∙ h k l)
-
-  -- no hyperplane contains all points
-  pub none-closed : closure ring numbers arr [] ≡ []
-  none-closed = empty (closure ring numbers arr []) (λ j c. none j (flat-members (over S) [] j c))
-    where
-      empty : (s : Set) → ((j : ℕ) → Contains s j → ⊥) → s ≡ []
-      empty [] h = refl
-      empty (j ∷ s) h = absurd (h j (Contains-here j s))
-
-      zeros : (n : ℕ) → All (λ c. c ≡ ring.zero) (zero_row ring n)
-      zeros n k d l = get-zero n k d l
-        where
-          get-zero : (n k : ℕ) (d : K) → k < length (zero_row ring n) → slice_index_or (zero_row ring n) k d ≡ ring.zero
-          get-zero zero k d l = absurd (omega (arith, l))
-          get-zero (suc n) zero d l = refl
-          get-zero (suc n) (suc k) d l = get-zero n k d (omega (arith, l))
-
-      none : (j : ℕ)
-          → IsIndex arr j × ((x : List K) → IsRow ring arr.dim x → list_all (λ i. lies_in ring arr i x) [] ≡ true → lies_in ring arr j x ≡ true)
-          → ⊥
-      none j w =
-          let r = row-of S j w.0 in
-          let z = unit-zeros (form arr j) r (λ k l. lies-zero field num arr lawful j (unit (k + 1)) w.0.0 w.0.1 (unit-row L arr.dim (k + 1)) (w.1 (unit (k + 1)) (unit-row L arr.dim (k + 1)) refl)) in
-          let t : is_zero_row ring (form arr j) ≡ true = (zero_row-all L (form arr j) r.1).1 (subst (All (λ c. c ≡ ring.zero)) (sym z) (zeros arr.dim)) in
-          not_both (is_zero_row ring (form arr j)) t (lawful.no_zero (j - 1) [] (inside j (length arr.forms) w.0))
-        where
-          inside : (j n : ℕ) → (1 ≤ j) × (j ≤ n) → j - 1 < n
-          inside j n r = omega (arith, r.0, r.1)
-
+  -- the empty set is a flat, of rank 0
   pub first-flat : IsFlat ring numbers arr []
-  first-flat = ([], empty-set (length arr.forms), sym none-closed)
+  first-flat = central-flat A [] (record {
+    set = empty-set (n A);
+    pointed = ap (λ s. not (contains s (suc (n A)))) (cone_matroid A).laws.no_loops;
+    closed = M.laws.no_loops;
+  })
 
-  first-rank : rank ring numbers arr [] ≡ 0
-  first-rank = let l = rank-low (over S) [] in omega (arith, l)
-
-  pub first-values : HasValues ring arr [] (map (λ k. values_of ring arr (unit_row ring arr.dim k)) (one_to arr.dim))
-  first-values = record {
-    points = map (unit_row ring arr.dim) (one_to arr.dim);
-    lie = λ b c. let w = map-Contains (unit_row ring arr.dim) (one_to arr.dim) b c in subst (IsPointOf ring arr []) w.2 (unit-row L arr.dim w.0, refl);
-    decide = λ a ra h x px.
-        let z = unit-zeros a ra (λ k l. h (unit (k + 1)) (Contains-map (unit_row ring arr.dim) (one_to arr.dim) (k + 1) (members_range (k + 1) 1 arr.dim (omega arith) (omega (arith, l))))) in
-        ap (λ s. dot_of ring s x) z ∙ dot-zeros L arr.dim x px.0.1;
-    values = sym (map-same (values_of ring arr) (unit_row ring arr.dim) (λ k. values_of ring arr (unit_row ring arr.dim k)) (one_to arr.dim) (λ k c. refl));
-  }
+  pub first-rank : rank ring numbers arr [] ≡ 0
+  first-rank = rank-matroid A [] (set-indices arr [] (empty-set (n A))) (flat-has_point A [] first-flat) ∙ M.laws.rank_empty
 
   abbrev first : Set × List (List K)
-  first = ([], map (λ k. values_of S.ring S.arr (unit_row S.ring S.arr.dim k)) (one_to S.arr.dim))
+  first = ([], map (λ k. values_of A.ring (coned A) (unit_row A.ring (A.arr.dim + 1) k)) (one_to (A.arr.dim + 1)))
 
   -- the flat of rank 0 is the empty set
-  least-flat : (f : Set) → IsFlat ring numbers arr f → rank ring numbers arr f ≡ 0 → f ≡ []
+  pub least-flat : (f : Set) → IsFlat ring numbers arr f → rank ring numbers arr f ≡ 0 → f ≡ []
   least-flat [] is e = refl
-  least-flat (i ∷ f) is e = let l = rank-strict (over S) [] (i ∷ f) first-flat is refl in absurd (omega (arith, e, l))
+  least-flat (i ∷ f) is e =
+      let h = set-indices arr (i ∷ f) (flat-set A (i ∷ f) is) in
+      let zero_rank = sym (rank-matroid A (i ∷ f) h (flat-has_point A (i ∷ f) is)) ∙ e in
+      let w = flat-same M [] (i ∷ f) (indices-within A (i ∷ f) h) (λ j c. nothing j (subst (λ s. contains s j ≡ true) M.laws.no_loops c))
+      (ap M.rank M.laws.no_loops ∙ M.laws.rank_empty ∙ sym zero_rank) in
+      absurd (none i (subst (λ s. contains s i ≡ true) M.laws.no_loops (w i (head_in i f))))
+    where
+      none : (j : ℕ) → contains [] j ≡ true → ⊥
+      none j e = not_both false e refl
+
+      nothing : (j : ℕ) → contains [] j ≡ true → contains (i ∷ f) j ≡ true
+      nothing j e = absurd (not_both false e refl)
 
   none-before : IsStrictlySortedBy cmp_listed ([] ∷ [])
   none-before = sorted_of cmp_listed ([] ∷ []) ((λ y c. absurd (Contains-none y c)), tt)
@@ -111,16 +77,16 @@ module _ {K : Type 0} (S : Setting K) where
   pub level-start : IsLevel ring numbers arr 0 (first ∷ [])
   level-start = record {
     are = record { each = λ f rows c. each f rows (Contains-cases first [] (f, rows) c); sorted = none-before };
-    sets = sorted-ext cmp_listed cmp_listed_total ([] ∷ []) (flats_of_rank ring numbers arr 0) none-before (sorted_of cmp_listed _ (flats_of_rank-rise (over S) 0)) (λ g. (
-      (λ c. (flats_of_rank-complete (over S) 0 g).1 (only g (Contains-cases [] [] g c))),
-      λ c. let h = (flats_of_rank-complete (over S) 0 g).0 c in subst (Contains ([] ∷ [])) (sym (least-flat g h.0 h.1)) (Contains-here [] []),
+    sets = sorted-ext cmp_listed cmp_listed_total ([] ∷ []) (flats_of_rank ring numbers arr 0) none-before (sorted_of cmp_listed _ (flats_of_rank-rise A 0)) (λ g. (
+      (λ c. (flats_of_rank-complete A 0 g).1 (only g (Contains-cases [] [] g c))),
+      λ c. let h = (flats_of_rank-complete A 0 g).0 c in subst (Contains ([] ∷ [])) (sym (least-flat g h.0 h.1)) (Contains-here [] []),
     ));
   }
     where
       each : (f : Set) (rows : List (List K))
           → (first ≡ (f, rows)) ⊎ Contains {X = Set × List (List K)} [] (f, rows)
           → IsEntry ring numbers arr 0 f rows
-      each f rows (inl e) = subst (λ (p : Set × List (List K)). IsEntry ring numbers arr 0 p.0 p.1) e (record { is_flat = first-flat; has_rank = first-rank; has_values = first-values })
+      each f rows (inl e) = subst (λ (p : Set × List (List K)). IsEntry ring numbers arr 0 p.0 p.1) e (record { is_flat = first-flat; has_rank = first-rank; has_values = first-cone_values A })
       each f rows (inr c) = absurd (Contains-none (f, rows) c)
 
       only : (g : Set) → ([] ≡ g) ⊎ Contains {X = Set} [] g → IsFlat ring numbers arr g × (rank ring numbers arr g ≡ 0)
@@ -138,7 +104,7 @@ module _ {K : Type 0} (S : Setting K) where
   entries-flats r es are g c =
       let w = map-Contains (λ (e : Set × List (List K)). e.0) es g c in
       let e = are.each w.0.0 w.0.1 w.1 in
-      subst (Contains (flats_of_rank ring numbers arr r)) w.2 ((flats_of_rank-complete (over S) r w.0.0).1 (e.is_flat, e.has_rank))
+      subst (Contains (flats_of_rank ring numbers arr r)) w.2 ((flats_of_rank-complete A r w.0.0).1 (e.is_flat, e.has_rank))
 
   -- the flat at a place of the level, with its values
   pub level-entry : {r : ℕ} {level : List (Set × List (List K))} → IsLevel ring numbers arr r level → {k : ℕ} → k < length level
@@ -151,9 +117,9 @@ module _ {K : Type 0} (S : Setting K) where
       → ((e : Set × List (List K)) → Contains level e → (g : Set) → IsCover ring numbers arr e.0 g → Contains (keys_of next) g) → IsLevel ring numbers arr (r + 1) next
   level-next r level next is are covers = record {
     are = are;
-    sets = sorted-ext cmp_listed cmp_listed_total (keys_of next) (flats_of_rank ring numbers arr (r + 1)) are.sorted (sorted_of cmp_listed _ (flats_of_rank-rise (over S) (r + 1))) (λ g. (
+    sets = sorted-ext cmp_listed cmp_listed_total (keys_of next) (flats_of_rank ring numbers arr (r + 1)) are.sorted (sorted_of cmp_listed _ (flats_of_rank-rise A (r + 1))) (λ g. (
       entries-flats (r + 1) next are g,
-      λ c. let h = (flats_of_rank-complete (over S) (r + 1) g).0 c in back g h.0 h.1,
+      λ c. let h = (flats_of_rank-complete A (r + 1) g).0 c in back g h.0 h.1,
     ));
   }
     where
@@ -162,16 +128,22 @@ module _ {K : Type 0} (S : Setting K) where
 
       back : (g : Set) → IsFlat ring numbers arr g → rank ring numbers arr g ≡ r + 1 → Contains (keys_of next) g
       back g ig e =
-          let d = flat-below (over S) g r ig (plain (rank ring numbers arr g) r e) in
-          let m = d.2 in
-          let cover = made-cover S d.0 m.is_flat g (d.1, m.index, m.outside, m.makes) in
-          let w = map-Contains (λ (e : Set × List (List K)). e.0) level d.0 (subst (λ fs. Contains fs d.0) (sym is.sets) ((flats_of_rank-complete (over S) r d.0).1 (m.is_flat, m.has_rank))) in
+          let c = flat-central A g ig in
+          let h = set-indices arr g c.set in
+          let d = central-down M (central A) (central-laws A) r g (indices-within A g h) c.closed (sym (rank-matroid A g h (flat-has_point A g ig)) ∙ plain (rank ring numbers arr g) r e) c.pointed in
+          let y = d.0 in
+          let inside : Within y (one_to (n A)) = λ j k. M.laws.closure_within y j (subst (λ s. contains s j ≡ true) (sym d.3) k) in
+          let iy = central-flat A y (record { set = set-from_rises (n A) y d.2 inside; pointed = d.5; closed = d.3 }) in
+          let ry = rank-matroid A y (set-indices arr y (flat-set A y iy)) (flat-has_point A y iy) ∙ d.4 in
+          let part : Within y g = λ j k. subst (λ s. contains s j ≡ true) d.8 (M.laws.extensive (d.1 ∷ y) (within-cons d.1 y (one_to (n A)) d.6 inside) j (or_right (d.1 == j) (contains y j) k)) in
+          let cover : IsCover ring numbers arr y g = (ig, is_within-from y g part, e ∙ ap (λ k. k + 1) (sym ry)) in
+          let w = map-Contains (λ (e : Set × List (List K)). e.0) level y (subst (λ fs. Contains fs y) (sym is.sets) ((flats_of_rank-complete A r y).1 (iy, ry))) in
           covers w.0 w.1 g (subst (λ f. IsCover ring numbers arr f g) (sym w.2) cover)
 
   -- ---- all flats
 
   abbrev ranked : ℕ → List Flat
-  ranked k = map (λ s. record { rank = k; set = s }) (flats_of_rank S.ring S.numbers S.arr k)
+  ranked k = map (λ s. record { rank = k; set = s }) (flats_of_rank A.ring A.numbers A.arr k)
 
   range-last : (a n : ℕ) → range_with_len a (suc n) ≡ range_with_len a n ++ (a + n) ∷ []
   range-last a zero = ap (λ k. k ∷ []) (omega arith)
@@ -193,14 +165,14 @@ module _ {K : Type 0} (S : Setting K) where
   below-all = refl
 
   none-above : length (ranked (arr.dim + 1)) ≡ 0
-  none-above = length-map _ (λ s. record { rank = arr.dim + 1; set = s }) ∙ empty (flats_of_rank ring numbers arr (arr.dim + 1)) (λ f c. high f ((flats_of_rank-complete (over S) (arr.dim + 1) f).0 c).1)
+  none-above = length-map _ (λ s. record { rank = arr.dim + 1; set = s }) ∙ empty (flats_of_rank ring numbers arr (arr.dim + 1)) (λ f c. let h = (flats_of_rank-complete A (arr.dim + 1) f).0 c in high f h.0 h.1)
     where
       empty : (fs : List Set) → ((f : Set) → Contains fs f → ⊥) → length fs ≡ 0
       empty [] h = refl
       empty (f ∷ fs) h = absurd (h f (Contains-here f fs))
 
-      high : (f : Set) → rank ring numbers arr f ≡ arr.dim + 1 → ⊥
-      high f e = let l = rank-dim (over S) f in omega (arith, e, l)
+      high : (f : Set) → IsFlat ring numbers arr f → rank ring numbers arr f ≡ arr.dim + 1 → ⊥
+      high f is e = let l = flat-rank_dim A f is in omega (arith, e, l)
 
   below-longer : (k r : ℕ) → length (flats_below ring numbers arr r) ≤ length (flats_below ring numbers arr (k + r))
   below-longer zero r = subst (λ m. length (flats_below ring numbers arr r) ≤ length (flats_below ring numbers arr m)) (plain r) (omega arith)

@@ -1,10 +1,11 @@
--- What the search for flats keeps: the values of all forms at points that decide which forms contain a flat.
+-- What the search for flats keeps: the values of all rows, and of the last coordinate, at points of the cone that decide which hyperplanes contain a flat.
 use Rattle.std.specs.Prelude.{◌≡◌, ℕ, ◌-◌, ◌≤◌, true, false, List, map, flat_map, slice_index_or, Contains, []}
 use Rattle.std.specs.List.Sorted.{IsStrictlySortedBy}
 use Rattle.std.specs.Map.{keys_of}
 use Rattle.hp_algebra.specs.Ring.{RingOf, Numbering, dot_of}
 use Rattle.hp_lists.specs.Lists.{below, list_all}
-use Rattle.hp_arr.specs.Arrangement.{Arrangement, indices, lies_in, value}
+use Rattle.hp_arr.specs.Arrangement.{Arrangement, form, indices, lies_in}
+use Rattle.hp_arr.specs.Operations.{cone}
 use Rattle.hp_algebra.specs.Rows.{IsRow, entry, row_plus, row_scale}
 use Rattle.hp_arr.specs.Flats.{rank, IsFlat, flats_of_rank}
 use Rattle.hp_sets.specs.Sets.{Set, contains, cmp_listed}
@@ -20,9 +21,9 @@ module _ {K : Type 0} (ring : RingOf K) where
   AreParallel rows q i j = let pivot = slice_index_or rows q [] in
       (w : List K) → Contains rows w → ring.mul (at_form i pivot) (at_form j w) ≡ ring.mul (at_form j pivot) (at_form i w)
 
-  -- of the hyperplanes from i to n, those that are not covered and are parallel to H_i
-  abbrev pub IsOfClass : List (List K) → Set → ℕ → ℕ → ℕ → ℕ → Type 0
-  IsOfClass rows covered q i n k = (i ≤ k) × (k ≤ n) × (contains covered k ≡ false) × AreParallel rows q i k
+  -- of the hyperplanes from one number to another, those that are not covered and are parallel to H_i
+  abbrev pub IsParallelFrom : List (List K) → Set → ℕ → ℕ → ℕ → ℕ → ℕ → Type 0
+  IsParallelFrom rows covered q i from to k = (from ≤ k) × (k ≤ to) × (contains covered k ≡ false) × AreParallel rows q i k
 
   -- the values at a point of H_i in the plane of two points: the first and the pivot
   abbrev pub reduced : List K → ℕ → List K → List K
@@ -35,7 +36,7 @@ module _ {K : Type 0} (ring : RingOf K) (arr : Arrangement K) where
 
   -- the values of all forms at a point
   abbrev pub values_of : List K → List K
-  values_of x = map (λ j. value ring arr j x) (indices arr)
+  values_of x = map (λ j. dot_of ring (form arr j) x) (indices arr)
 
   -- The values of all forms at some points of the set. A form that is zero at these is zero at all points of the set.
   pub record HasValues (s : Set) (rows : List (List K)) : Type 0 where
@@ -46,11 +47,11 @@ module _ {K : Type 0} (ring : RingOf K) (arr : Arrangement K) where
     pub values : rows ≡ map values_of points
 
 module _ {K : Type 0} (ring : RingOf K) (numbers : Numbering K) (arr : Arrangement K) where
-  -- a flat of rank r with such values
+  -- a flat of rank r with such values, of the forms of the cone
   pub record IsEntry (r : ℕ) (f : Set) (rows : List (List K)) : Type 0 where
     pub is_flat : IsFlat ring numbers arr f
     pub has_rank : rank ring numbers arr f ≡ r
-    pub has_values : HasValues ring arr f rows
+    pub has_values : HasValues ring (cone ring arr.dim arr.forms) f rows
 
   -- some flats of rank r, as sets are listed
   pub record AreOfRank (r : ℕ) (entries : List (Set × List (List K))) : Type 0 where

@@ -1,16 +1,16 @@
 //! The covers of one flat.
 
-ghost use Rattle.std.specs.Prelude.{◌≡◌, ◌↔◌, ◌⊎◌, ℕ, ◌+◌, ◌<◌, ◌≤◌, IfOk, IfErr, OnOk, All, Contains, length, map, remove, slice_index_or, []};
+ghost use Rattle.std.specs.Prelude.{◌≡◌, ◌≢◌, ◌↔◌, ◌⊎◌, ℕ, ◌+◌, ◌<◌, ◌≤◌, IfOk, IfErr, OnOk, All, Contains, length, map, remove, slice_index_or, []};
 ghost use Rattle.std.specs.BTreeMap.{keys};
 ghost use Rattle.hp_arr.specs.Flats.{flats_of_rank, rank};
-ghost use Rattle.hp_flats.specs.Covers.{IsCoverList};
 ghost use Rattle.hp_flats.specs.Levels.{AreOfRank, IsEntry, reduced};
+ghost use Rattle.hp_flats.specs.Covers.{IsCoverList};
 ghost use Rattle.hp_sets.specs.Sets.{Set};
 
 use crate::stop::FlatStop;
-use crate::values::{place_off, reduced_values, with_class};
+use crate::values::{place_off, reduced_values, with_parallel};
 use hp_algebra::{FiniteField, List};
-use hp_arr::Arr;
+use hp_arr::Aff;
 use hp_sets::HSet;
 use std::alloc::Global;
 use std::collections::BTreeMap;
@@ -19,33 +19,37 @@ use std::collections::BTreeMap;
 /// put to the flats of the next rank, with values; of these there are at most `room`.
 pub fn covers_of<K: FiniteField>(
     alloc: Global,
-    arr: &Arr<K>,
+    aff: &Aff<K>,
     set: HSet,
     rows: &[List<K>],
     next: &mut BTreeMap<HSet, List<List<K>>>,
     room: usize,
 ) -> Result<List<HSet>, FlatStop>
-    requires entry { IsEntry K.ring K.numbers arr.now (rank K.ring K.numbers arr.now set) set rows.now }
-    requires next { AreOfRank K.ring K.numbers arr.now (rank K.ring K.numbers arr.now set + 1) next.old.entries }
+    requires entry { IsEntry K.ring K.numbers aff.now (rank K.ring K.numbers aff.now set) set rows.now }
+    requires next { AreOfRank K.ring K.numbers aff.now (rank K.ring K.numbers aff.now set + 1) next.old.entries }
     requires room { length next.old.entries ≤ room }
-    ensures covers { IfOk result (IsCoverList K.ring K.numbers arr.now set) }
-    ensures next { OnOk result (AreOfRank K.ring K.numbers arr.now (rank K.ring K.numbers arr.now set + 1) next.new.entries) }
+    ensures covers { IfOk result (IsCoverList K.ring K.numbers aff.now set) }
+    ensures next { OnOk result (AreOfRank K.ring K.numbers aff.now (rank K.ring K.numbers aff.now set + 1) next.new.entries) }
     ensures grows { OnOk result ((g : Set) → Contains (keys next.old) g → Contains (keys next.new) g) }
     ensures added { IfOk result (All (Contains (keys next.new))) }
     ensures room { OnOk result (length next.new.entries ≤ room) }
-    ensures stop { IfErr result (λ e. (e ≡ FlatStop.Memory) ⊎ (room < length (flats_of_rank K.ring K.numbers arr.now (rank K.ring K.numbers arr.now set + 1)))) }
+    ensures stop { IfErr result (λ e. (e ≡ FlatStop.Memory) ⊎ (room < length (flats_of_rank K.ring K.numbers aff.now (rank K.ring K.numbers aff.now set + 1)))) }
 {
-    let mut covered = set;
+    let count = aff.len();
+    let Some(p) = place_off(rows, count + 1) else {
+        unreachable!()
+    };
+    let mut covered = with_parallel(set, set, rows, p, count + 1, 1, count);
     let mut covers = Vec::new(alloc);
-    for i in 1..arr.len() + 1 {
+    for i in 1..count + 1 {
         if covered.contains(i) {
             continue;
         }
         let Some(q) = place_off(rows, i) else {
             unreachable!()
         };
-        let cover = with_class(arr, set, covered, rows, q, i);
-        put(alloc, arr, cover, rows, q, i, next, room)?;
+        let cover = with_parallel(set, covered, rows, q, i, i, count);
+        put(alloc, aff, cover, rows, q, i, next, room)?;
         covered = covered.union(cover);
         covers.push(cover)?;
     }
@@ -55,7 +59,7 @@ pub fn covers_of<K: FiniteField>(
 /// Puts the cover to the flats of its rank, unless it is there. Its values come from those of the flat that it covers.
 fn put<K: FiniteField>(
     alloc: Global,
-    arr: &Arr<K>,
+    aff: &Aff<K>,
     cover: HSet,
     rows: &[List<K>],
     q: usize,
@@ -67,15 +71,15 @@ fn put<K: FiniteField>(
     requires low { 1 ≤ i }
     requires inside_i { i ≤ length (slice_index_or rows.now q []) }
     requires widths { All (λ row. length row ≡ length (slice_index_or rows.now q [])) rows.now }
-    requires entry { IsEntry K.ring K.numbers arr.now (rank K.ring K.numbers arr.now cover) cover (map (reduced K.ring (slice_index_or rows.now q []) i) (remove rows.now q)) }
-    requires next { AreOfRank K.ring K.numbers arr.now (rank K.ring K.numbers arr.now cover) next.old.entries }
+    requires entry { IsEntry K.ring K.numbers aff.now (rank K.ring K.numbers aff.now cover) cover (map (reduced K.ring (slice_index_or rows.now q []) i) (remove rows.now q)) }
+    requires next { AreOfRank K.ring K.numbers aff.now (rank K.ring K.numbers aff.now cover) next.old.entries }
     requires room { length next.old.entries ≤ room }
-    ensures next { OnOk result (AreOfRank K.ring K.numbers arr.now (rank K.ring K.numbers arr.now cover) next.new.entries) }
+    ensures next { OnOk result (AreOfRank K.ring K.numbers aff.now (rank K.ring K.numbers aff.now cover) next.new.entries) }
     ensures keys { OnOk result ((g : Set) → Contains (keys next.new) g ↔ (Contains (keys next.old) g ⊎ (cover ≡ g))) }
     ensures room { OnOk result (length next.new.entries ≤ room) }
-    ensures stop { IfErr result (λ e. (e ≡ FlatStop.Memory) ⊎ (room < length (flats_of_rank K.ring K.numbers arr.now (rank K.ring K.numbers arr.now cover)))) }
+    ensures stop { IfErr result (λ e. (e ≡ FlatStop.Memory) ⊎ (room < length (flats_of_rank K.ring K.numbers aff.now (rank K.ring K.numbers aff.now cover)))) }
 {
-    let _lawful = arr.len();
+    let _lawful = aff.len();
     if next.contains_key(&cover) {
         return Ok(());
     }

@@ -1,4 +1,4 @@
-//! Closures and ranks of sets of hyperplanes, and all flats of an arrangement.
+//! Closures and ranks of sets of hyperplanes, the rank of an arrangement, and all its flats.
 #![tactic(auto)]
 
 mod closing;
@@ -8,7 +8,7 @@ mod listing;
 mod stop;
 mod values;
 
-pub use closing::{closure, rank};
+pub use closing::{closure, rank, total_rank};
 pub use levels::{Covered, flats_with_covers};
 pub use listing::flats;
 pub use stop::{FlatStop, MOST_FLATS};

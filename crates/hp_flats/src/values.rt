@@ -1,39 +1,44 @@
-//! The values of all forms at points, and what they say of the covers of a flat.
+//! The values of all rows, and of the last coordinate, at points of the cone, and what they say of the covers of a flat.
 
-ghost use Rattle.std.specs.Prelude.{◌≡◌, ◌≢◌, ◌↔◌, ℕ, ◌++◌, ◌⊎◌, ◌<◌, ◌≤◌, IfOk, IfSome, OnOk, IsNone, IsTrue, false, All, Contains, length, map, remove, slice_index_or, []};
+ghost use Rattle.std.specs.Prelude.{◌≡◌, ◌≢◌, ◌↔◌, ℕ, ◌+◌, ◌++◌, ◌⊎◌, ◌<◌, ◌≤◌, IfOk, IfSome, OnOk, IsNone, IsTrue, false, All, Contains, length, map, remove, slice_index_or, []};
 ghost use Rattle.hp_lists.specs.Lists.{one_to};
-ghost use Rattle.hp_flats.specs.Levels.{AreParallel, IsOfClass, at_form, reduced, values_of};
-ghost use Rattle.hp_algebra.specs.Rows.{unit_row, row_plus, row_scale};
+ghost use Rattle.hp_flats.specs.Levels.{AreParallel, IsParallelFrom, at_form, reduced, values_of};
+ghost use Rattle.hp_algebra.specs.Rows.{IsRow, unit_row, row_plus, row_scale};
+ghost use Rattle.hp_arr.specs.Arrangement.{max_forms};
+ghost use Rattle.hp_arr.specs.Operations.{cone};
 ghost use Rattle.hp_sets.specs.Sets.{IsSetWithin, contains};
 
 use crate::closing::with_if;
-use hp_algebra::{Field, FiniteField, List, NoMem, unit_row};
-use hp_arr::Arr;
+use hp_algebra::{Field, FiniteField, List, NoMem, form_value, unit_row};
+use hp_arr::Aff;
 use hp_sets::HSet;
 use std::alloc::Global;
 
-/// The values of all forms at the unit vectors.
-pub fn unit_values<K: FiniteField>(alloc: Global, arr: &Arr<K>) -> Result<List<List<K>>, NoMem>
-    ensures { IfOk result (λ rows. rows ≡ map (λ k. values_of K.ring arr.now (unit_row K.ring arr.now.dim k)) (one_to arr.now.dim)) }
+/// The values of all forms of the cone at its unit vectors.
+pub fn unit_values<K: FiniteField>(alloc: Global, aff: &Aff<K>) -> Result<List<List<K>>, NoMem>
+    ensures { let coned = cone K.ring aff.now.dim aff.now.forms in
+        IfOk result (λ rows. rows ≡ map (λ k. values_of K.ring coned (unit_row K.ring (aff.now.dim + 1) k)) (one_to (aff.now.dim + 1))) }
 {
     let mut rows = Vec::new(alloc);
-    let dim = arr.dim() as usize;
-    for k in 0..dim {
-        let point = unit_row(alloc, dim, k + 1)?;
-        rows.push(values_at(alloc, arr, &point)?)?;
+    let width = aff.dim() as usize + 1;
+    for k in 0..width {
+        let point = unit_row(alloc, width, k + 1)?;
+        rows.push(values_at(alloc, aff, &point)?)?;
     }
     Ok(List::of(rows))
 }
 
-/// The values of all forms at the point.
-fn values_at<K: FiniteField>(alloc: Global, arr: &Arr<K>, point: &[K]) -> Result<List<K>, NoMem>
-    requires { length point.now ≡ arr.now.dim }
-    ensures { IfOk result (λ row. row ≡ values_of K.ring arr.now point.now) }
+/// The values of all rows at the point of the cone, and its last coordinate.
+fn values_at<K: FiniteField>(alloc: Global, aff: &Aff<K>, point: &[K]) -> Result<List<K>, NoMem>
+    requires { IsRow K.ring (aff.now.dim + 1) point.now }
+    ensures { IfOk result (λ row. row ≡ values_of K.ring (cone K.ring aff.now.dim aff.now.forms) point.now) }
 {
+    let dim = aff.dim() as usize;
     let mut row = Vec::new(alloc);
-    for j in 0..arr.len() {
-        row.push(arr.value(j + 1, point))?;
+    for j in 0..aff.len() {
+        row.push(form_value(aff.row(j + 1), point))?;
     }
+    row.push(point[dim])?;
     Ok(List::of(row))
 }
 
@@ -96,26 +101,29 @@ fn is_of_class<K: Field>(covered: HSet, rows: &[List<K>], q: usize, i: u32, k: u
     !covered.contains(k) && are_parallel(rows, q, i, k)
 }
 
-/// The set, with the hyperplanes from `i` on that are not covered and are parallel to H_i. Form `i` is not zero at point
-/// `q`.
-pub fn with_class<K: FiniteField>(
-    arr: &Arr<K>,
+/// The set, with the hyperplanes from the one number to the other that are not covered and are parallel to H_i. Form `i`
+/// is not zero at point `q`.
+pub fn with_parallel<K: Field>(
     set: HSet,
     covered: HSet,
     rows: &[List<K>],
     q: usize,
     i: u32,
+    from: u32,
+    to: u32,
 ) -> HSet
     requires low { 1 ≤ i }
-    requires high { i ≤ length arr.now.forms }
-    requires set { IsSetWithin (length arr.now.forms) set }
+    requires high { i ≤ to + 1 }
+    requires from { 1 ≤ from }
+    requires to { to ≤ max_forms }
+    requires set { IsSetWithin to set }
     requires inside { q < length rows.now }
-    requires widths { All (λ row. length row ≡ length arr.now.forms) rows.now }
-    ensures set { IsSetWithin (length arr.now.forms) result }
-    ensures members { (k : ℕ) → Contains result k ↔ (Contains set k ⊎ IsOfClass K.ring rows.now covered q i (length arr.now.forms) k) }
+    requires widths { All (λ row. length row ≡ to + 1) rows.now }
+    ensures set { IsSetWithin to result }
+    ensures members { (k : ℕ) → Contains result k ↔ (Contains set k ⊎ IsParallelFrom K.ring rows.now covered q i from to k) }
 {
     let mut found = set;
-    for k in i..arr.len() + 1 {
+    for k in from..to + 1 {
         found = with_if(found, k, is_of_class(covered, rows, q, i, k));
     }
     found

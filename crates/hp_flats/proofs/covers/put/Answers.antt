@@ -1,12 +1,12 @@
+use Rattle.hp_arr.specs.Flats.{rank, flats_of_rank}
+use Rattle.hp_flats.specs.Levels.{IsEntry, AreOfRank}
+use Rattle.hp_flats.proofs.CoverSteps.{affine_setting}
+use Rattle.hp_flats.proofs.CoverPuts.{put-keys, put-there, put-next, put-many}
 use Rattle.std.proofs.Common.{◌≡◌, ◌↔◌, ◌⊎◌, ◌<◌, length, Contains, sym, subst, ◌∙◌, arith, inl, inr}
 use Rattle.std.specs.BTreeMap.{insert_entry}
 use Rattle.std.specs.List.Sorted.{IsStrictlySortedBy}
 use Rattle.std.specs.Map.{keys_of}
-use Rattle.hp_arr.specs.Flats.{rank, flats_of_rank}
-use Rattle.hp_arr.proofs.Setting.{setting}
 use Rattle.hp_sets.specs.Sets.{Set, cmp_listed}
-use Rattle.hp_flats.specs.Levels.{AreOfRank, IsEntry}
-use Rattle.hp_flats.proofs.CoverPuts.{put-keys, put-there, put-next, put-many}
 use Rattle.hp_lists.proofs.Members.{not_both}
 use Rattle.hp_flats.proofs.covers.put.Goals as goal
 
@@ -20,9 +20,9 @@ returns-then-contains_key-clause-keys g c =
 pub returns-then-len-room-clause-stop : goal.returns-then-len-room-clause-stop
 returns-then-len-room-clause-stop g c =
     let es = c.args.next.now.entries in
-    let arr = c.args.arr.now in
+    let arr = c.args.aff.now in
     let r = rank g.K.Ring.ring g.K.FiniteField.numbers arr c.args.cover in
-    let S = setting g.met.K.Field.field_laws g.met.K.FiniteField.numbering c.len-lawful.ensures.lawful in
+    let S = affine_setting g.met.K.Field.field_laws g.met.K.FiniteField.numbering c.len-lawful.ensures.lawful in
     let there = put-there es c.args.cover c.args.rows.now in
     let many : length es < length (flats_of_rank g.K.Ring.ring g.K.FiniteField.numbers arr r) =
     put-many S r es c.args.cover _ c.requires.next c.requires.entry (λ d. absurd (not_both _ (there.1 d) (sym c.contains_key.ensures ∙ c.if-contains_key.false))) in
@@ -32,10 +32,10 @@ pub returns-clause-next : goal.returns-clause-next
 returns-clause-next g c =
     let es = c.args.next.now.entries in
     let cover = c.args.cover in
-    let arr = c.args.arr.now in
+    let arr = c.args.aff.now in
     let rows = c.in_ok-reduced_values.field-0 in
     let r = rank g.K.Ring.ring g.K.FiniteField.numbers arr cover in
-    let S = setting g.met.K.Field.field_laws g.met.K.FiniteField.numbering c.len-lawful.ensures.lawful in
+    let S = affine_setting g.met.K.Field.field_laws g.met.K.FiniteField.numbering c.len-lawful.ensures.lawful in
     let e : c.insert.new.self.entries ≡ insert_entry cmp_listed es cover rows = c.in_ok-insert.ensures.entries in
     let is = subst (IsEntry g.K.Ring.ring g.K.FiniteField.numbers arr r cover) (sym c.in_ok-reduced_values.ensures) c.requires.entry in
     subst (AreOfRank g.K.Ring.ring g.K.FiniteField.numbers arr r) (sym e)

@@ -1,15 +1,15 @@
+use Rattle.hp_arr.specs.Flats.{rank, flats, flats_of_rank}
+use Rattle.hp_flats.specs.Covers.{IsCover, IsCoverList}
+use Rattle.hp_flats.specs.Levels.{IsEntry, AreOfRank, IsLevel, flats_below}
+use Rattle.hp_flats.proofs.CoverSteps.{affine_setting}
 use Rattle.std.proofs.Common.{rules, ◌≡◌, ◌⊎◌, ◌+◌, ◌-◌, ◌<◌, ◌≤◌, IfErr, List, [], ◌∷◌, ◌++◌, map, length, Contains, refl, sym, ap, subst, ◌∙◌, arith, inl, inr}
 use Rattle.std.specs.BTreeMap.{keys}
 use Rattle.std.proofs.lemmas.List.{append-nil, length-map}
 use Rattle.std.proofs.lemmas.List.Elements.{All-contains}
 use Rattle.std.proofs.lemmas.Result.{IfErr-weaker}
-use Rattle.hp_arr.specs.Flats.{rank, flats, flats_of_rank}
-use Rattle.hp_arr.proofs.Setting.{setting}
 use Rattle.hp_sets.specs.Sets.{Set}
 use Rattle.hp_sets.specs.declared.flat.Flat.{Flat}
 use Rattle.hp_flats.specs.Bounds.{most_flats}
-use Rattle.hp_flats.specs.Covers.{IsCover, IsCoverList}
-use Rattle.hp_flats.specs.Levels.{AreOfRank, IsEntry, IsLevel, flats_below}
 use Rattle.hp_flats.specs.declared.levels.Covered.{Covered}
 use Rattle.hp_flats.specs.declared.stop.FlatStop.{FlatStop}
 use Rattle.hp_flats.specs.declared.stop.FlatStop.TheVariants.{Memory}
@@ -19,7 +19,7 @@ use Rattle.hp_flats.proofs.levels.next_level.Goals as goal
 
 pub loop-entry-init : goal.loop-entry-init
 loop-entry-init g c =
-    let S = setting g.met.K.Field.field_laws g.met.K.FiniteField.numbering c.len-lawful.ensures.lawful in
+    let S = affine_setting g.met.K.Field.field_laws g.met.K.FiniteField.numbering c.len-lawful.ensures.lawful in
     record {
       are = subst (AreOfRank S.ring S.numbers S.arr (c.args.rank + 1)) (sym c.new-next.ensures.empty) (entries-none S (c.args.rank + 1));
       few = omega (arith, c.new-next.ensures.len);
@@ -30,21 +30,21 @@ loop-entry-init g c =
 
 pub covers_of-requires-clause-entry : goal.covers_of-requires-clause-entry
 covers_of-requires-clause-entry g c =
-    let S = setting g.met.K.Field.field_laws g.met.K.FiniteField.numbering c.len-lawful.ensures.lawful in
+    let S = affine_setting g.met.K.Field.field_laws g.met.K.FiniteField.numbering c.len-lawful.ensures.lawful in
     let inside : c.loop-entry.entry-index < length c.args.level.now = omega (arith, c.loop-entry-test.true) in
     let entry = level-entry S c.requires.level inside c.entry-item.is in
     subst (IsEntry S.ring S.numbers S.arr (rank S.ring S.numbers S.arr c.entry-item.result.0) c.entry-item.result.0) (sym c.as_slice.ensures) (record { is_flat = entry.is_flat; has_rank = refl; has_values = entry.has_values })
 
 pub covers_of-requires-clause-next : goal.covers_of-requires-clause-next
 covers_of-requires-clause-next g c =
-    let S = setting g.met.K.Field.field_laws g.met.K.FiniteField.numbering c.len-lawful.ensures.lawful in
+    let S = affine_setting g.met.K.Field.field_laws g.met.K.FiniteField.numbering c.len-lawful.ensures.lawful in
     let inside : c.loop-entry.entry-index < length c.args.level.now = omega (arith, c.loop-entry-test.true) in
     let entry = level-entry S c.requires.level inside c.entry-item.is in
     subst (λ m. AreOfRank S.ring S.numbers S.arr (m + 1) c.loop-entry.next.entries) (sym entry.has_rank) c.loop-entry.invariant.are
 
 pub returns-in_err-covers-clause-stop : goal.returns-in_err-covers-clause-stop
 returns-in_err-covers-clause-stop g c =
-    let S = setting g.met.K.Field.field_laws g.met.K.FiniteField.numbering c.len-lawful.ensures.lawful in
+    let S = affine_setting g.met.K.Field.field_laws g.met.K.FiniteField.numbering c.len-lawful.ensures.lawful in
     let inside : c.loop-entry.entry-index < length c.args.level.now = omega (arith, c.loop-entry-test.true) in
     let entry = level-entry S c.requires.level inside c.entry-item.is in
     let level = c.args.level.now in
@@ -61,7 +61,7 @@ returns-in_err-covers-clause-stop g c =
 
 pub loop-entry-preserved : goal.loop-entry-preserved
 loop-entry-preserved g c =
-    let S = setting g.met.K.Field.field_laws g.met.K.FiniteField.numbering c.len-lawful.ensures.lawful in
+    let S = affine_setting g.met.K.Field.field_laws g.met.K.FiniteField.numbering c.len-lawful.ensures.lawful in
     let inside : c.loop-entry.entry-index < length c.args.level.now = omega (arith, c.loop-entry-test.true) in
     let entry = level-entry S c.requires.level inside c.entry-item.is in
     let inv = c.loop-entry.invariant in
@@ -85,7 +85,7 @@ loop-entry-preserved g c =
 
 pub returns-clause-level : goal.returns-clause-level
 returns-clause-level g c =
-    let S = setting g.met.K.Field.field_laws g.met.K.FiniteField.numbering c.len-lawful.ensures.lawful in
+    let S = affine_setting g.met.K.Field.field_laws g.met.K.FiniteField.numbering c.len-lawful.ensures.lawful in
     subst (IsLevel S.ring S.numbers S.arr (c.args.rank + 1)) (sym c.in_ok-entries_of.ensures)
     (level-next S c.args.rank c.args.level.now c.loop-entry.next.entries c.requires.level c.loop-entry.invariant.are
     (λ e at f cover. c.loop-entry.invariant.found at.0 e (omega (arith, at.1, c.loop-entry-test.false)) f (subst (λ x. IsCover S.ring S.numbers S.arr x.0 f) (sym at.2) cover)))
@@ -103,7 +103,7 @@ returns-clause-few g c =
 
 pub returns-clause-flats : goal.returns-clause-flats
 returns-clause-flats g c =
-    let S = setting g.met.K.Field.field_laws g.met.K.FiniteField.numbering c.len-lawful.ensures.lawful in
+    let S = affine_setting g.met.K.Field.field_laws g.met.K.FiniteField.numbering c.len-lawful.ensures.lawful in
     let old = map (λ (x : Covered). x.flat) c.args.listed.now.items in
     map-end (λ (x : Covered). x.flat) (of_rank c.args.rank) c.loop-entry.listed.items [] old c.args.level.now c.loop-entry.entry-index c.loop-entry.invariant.flats (omega (arith, c.loop-entry-test.false))
     ∙ listed-next S c.args.rank c.args.level.now c.requires.level old c.requires.flats
