@@ -35,6 +35,12 @@ pub record AffineSetting (K : Type 0) : Type 1 where
   pub num : IsNumbering ring numbers
   pub lawful : IsAffineArrangement ring numbers arr
 
+-- the record of the laws, from where a function's bounds and an arrangement give them
+module _ {K : Type 0} {ring : RingOf K} {inverse : K → K} {numbers : Numbering K} {arr : Arrangement K} where
+  abbrev pub affine_setting : IsField ring inverse → IsNumbering ring numbers → IsAffineArrangement ring numbers arr → AffineSetting K
+  affine_setting field num lawful =
+      record { ring = ring; inverse = inverse; numbers = numbers; arr = arr; field = field; num = num; lawful = lawful }
+
 module _ {K : Type 0} (A : AffineSetting K) where
   -- the number of hyperplanes, the dimension, the field, and the cone
   abbrev pub n : ℕ

@@ -37,10 +37,6 @@ pub union-same : (s t : Set) → IsSetWithin 64 s → IsSetWithin 64 t → (k : 
     → Contains (union s t) k ↔ (Contains s k ⊎ Contains t k)
 union-same s t hs ht k = (union-members s t k, λ c. elim c [ inl d ↦ members-union_left s t k hs d | inr d ↦ members-union_right s t k ht d ])
 
--- the record of the laws, from where a function's bounds and an arrangement give them
-abbrev pub affine_setting : {K : Type 0} {ring : RingOf K} {inverse : K → K} {numbers : Numbering K} {arr : Arrangement K} → IsField ring inverse → IsNumbering ring numbers → IsAffineArrangement ring numbers arr → AffineSetting K
-affine_setting {ring = ring} {inverse = inverse} {numbers = numbers} {arr = arr} field num lawful = record { ring = ring; inverse = inverse; numbers = numbers; arr = arr; field = field; num = num; lawful = lawful }
-
 module _ {K : Type 0} (A : AffineSetting K) where
   open A use {ring, numbers, arr}
 

@@ -1,4 +1,5 @@
--- Lists read by place, the sums of one rank taken over a list of values, and lists of coefficients that grow.
+-- Lists read by place, the sums of one rank of an affine arrangement taken over a list of values, and lists of coefficients that grow.
+use Rattle.hp_arr.specs.Arrangement.{max_dim}
 use Rattle.std.specs.Prelude.{◌≡◌, ℕ, zero, suc, ◌+◌, ◌-◌, ◌*ℤ◌, ◌<◌, ◌≤◌, ◌==◌, cond, List, [], ◌∷◌, ◌++◌, map, take, drop, length, ℤ, pos, ◌+ℤ◌}
 use Rattle.std.proofs.Common.{get_or}
 use Rattle.std.proofs.lemmas.Int.{ints}
@@ -6,14 +7,12 @@ use Rattle.std.proofs.lemmas.List.{length-map, get_or-map, take_more, take-appen
 use mathlib.Core.Path.{sym, ap, ◌∙◌, subst}
 use native.Mathlib.Omega.{arith}
 use Rattle.hp_algebra.specs.Integers.{sum_over, sign}
-use Rattle.hp_lists.specs.Lists.{below, one_to, range_with_len}
+use Rattle.hp_lists.specs.Lists.{below, range_with_len}
 use Rattle.hp_sets.specs.declared.flat.Flat.{Flat}
-use Rattle.hp_sets.specs.Sets.{Set}
-use Rattle.hp_arr.specs.Arrangement.{max_dim}
-use Rattle.hp_arr.specs.Flats.{flats, rank, total_rank}
+use Rattle.hp_arr.specs.Flats.{flats, total_rank}
 use Rattle.hp_arr.specs.Moebius.{mobius, rank_sum, poincare, characteristic}
-use Rattle.hp_arr.proofs.Setting.{Setting, over}
-use Rattle.hp_arr.proofs.Ranks.{rank-dim}
+use Rattle.hp_arr.proofs.ConePoints.{AffineSetting}
+use Rattle.hp_arr.proofs.FlatList.{total-rank_dim}
 use Rattle.hp_matroid.proofs.Subsets.{sum_over-append}
 use Rattle.hp_mobius.specs.Partial.{IsSmall}
 use Rattle.hp_mobius.proofs.CoverSums.{of_rank, small-rank}
@@ -45,7 +44,7 @@ next-coefficient f k xs ys x e p q = p ∙ (λ i. e i ++ q i ∷ []) ∙ ap (λ 
     next : (k : ℕ) → suc k ≡ k + 1
     next k = omega arith
 
-module _ {K : Type 0} (S : Setting K) where
+module _ {K : Type 0} (S : AffineSetting K) where
   open S use {ring, numbers, arr}
 
   abbrev all : List Flat
@@ -77,12 +76,12 @@ module _ {K : Type 0} (S : Setting K) where
       let pair : Flat → Flat × ℤ = λ f. (f, mobius ring numbers arr f.set) in
       subst (λ m. m ≤ k) (ap length e ∙ length-map all pair) l
 
-  pub rank-high : (s : Set) → rank ring numbers arr s ≤ max_dim
-  rank-high s = let low = rank-dim (over S) s in let high = S.lawful.dim_high in omega (arith, low, high)
+  pub rank-high : total_rank ring numbers arr ≤ max_dim
+  rank-high = let low = total-rank_dim S in let high = S.lawful.dim_high in omega (arith, low, high)
 
-  pub poincare-is : (k r : ℕ) (xs : List ℤ) → r ≡ rank ring numbers arr (one_to (length arr.forms)) → k ≤ r + 1 → r + 1 ≤ k
+  pub poincare-is : (k r : ℕ) (xs : List ℤ) → r ≡ total_rank ring numbers arr → k ≤ r + 1 → r + 1 ≤ k
       → xs ≡ map (λ k. rank_sum ring numbers arr k *ℤ sign k) (below k) → xs ≡ poincare ring numbers arr
-  unfolding poincare total_rank
+  unfolding poincare
   poincare-is k r xs e l h p = p ∙ ap (λ m. map (λ k. rank_sum ring numbers arr k *ℤ sign k) (below m)) (both k (r + 1) l h ∙ ap (λ m. m + 1) e)
     where
       both : (a b : ℕ) → a ≤ b → b ≤ a → a ≡ b

@@ -1,5 +1,5 @@
--- Möbius values from the covers: the sums that flats get from those before them, and how large they are.
-use Rattle.std.specs.Prelude.{nat_lt, ◌≡◌, ◌≢◌, ℕ, suc, ◌+◌, ◌-◌, ◌^◌, ◌<◌, ◌≤◌, ◌==◌, Bool, true, false, cond, not, ◌&&◌, List, [], ◌∷◌, ◌++◌, map, take, drop, length, filter, Contains, ◌⊎◌, ℤ, pos, ◌+ℤ◌, ◌*ℤ◌, neg_ℤ}
+-- Möbius values of an affine arrangement from the covers: the sums that flats get from those before them, and how large they are.
+use Rattle.std.specs.Prelude.{nat_lt, ◌≡◌, ◌≢◌, ℕ, zero, suc, ◌+◌, ◌-◌, ◌^◌, ◌<◌, ◌≤◌, ◌==◌, Bool, true, false, cond, not, ◌&&◌, List, [], ◌∷◌, ◌++◌, map, take, drop, length, filter, Contains, ◌⊎◌, ℤ, pos, ◌+ℤ◌, ◌*ℤ◌, neg_ℤ}
 use Rattle.std.specs.Cmp.{both_ways}
 use Rattle.std.specs.BTreeMap.{BTreeMap}
 use Rattle.std.specs.declared.cmp.Ordering.{Ordering}
@@ -11,6 +11,7 @@ use Rattle.std.proofs.lemmas.Int.{ints}
 use Rattle.std.proofs.lemmas.List.{take-append-drop, take_more, map_more}
 use Rattle.std.proofs.lemmas.List.Elements.{Contains-append_left, Contains-append_right}
 use Rattle.std.proofs.Math.Seq.{drop-cons, take-length}
+use Rattle.hp_arr.specs.Arrangement.{max_dim, max_forms}
 use mathlib.Core.Logic.{inl, inr}
 use mathlib.Core.Path.{refl, sym, ap, ◌∙◌, subst}
 use native.Mathlib.Omega.{arith}
@@ -20,21 +21,20 @@ use Rattle.hp_lists.specs.Lists.{Ordered}
 use Rattle.hp_lists.proofs.Ordered.{ordered_of}
 use Rattle.hp_sets.specs.Sets.{Set, contains, is_within, sets_within, cmp_listed}
 use Rattle.hp_sets.specs.declared.flat.Flat.{Flat}
-use Rattle.hp_sets.proofs.SetLaws.{empty-set, Contains-contains}
-use Rattle.hp_arr.specs.Arrangement.{max_dim, max_forms}
-use Rattle.hp_arr.specs.Flats.{closure, rank, flats, flats_of_rank, is_flat, IsFlat, cmp_ranked}
+use Rattle.hp_sets.proofs.SetLaws.{Contains-contains}
+use Rattle.hp_arr.specs.Flats.{cmp_ranked, rank, flats, flats_of_rank, is_flat, IsFlat}
 use Rattle.hp_arr.specs.Moebius.{mobius, rank_sum}
-use Rattle.hp_arr.proofs.Setting.{Setting, over, n}
-use Rattle.hp_arr.proofs.Ranks.{rank-low, rank-strict}
+use Rattle.hp_arr.proofs.ConePoints.{AffineSetting, n}
 use Rattle.hp_arr.proofs.FlatList.{flats-complete, flats-rise}
 use Rattle.hp_flats.specs.Covers.{IsCoverList}
-use Rattle.hp_matroid.specs.Matroids.{same_set}
+use Rattle.hp_matroid.specs.Matroids.{same_set, is_nbc}
 use Rattle.hp_matroid.proofs.Subsets.{clash, sum_over-append}
 use Rattle.hp_matroid.proofs.Expansion.{sum_over-filter}
 use Rattle.hp_matroid.proofs.Signs.{sign_sign}
 use Rattle.hp_mobius.specs.Partial.{misses_least, noted, value_from, IsSmall, IsShared, gain, partial, IsAddedUp}
-use Rattle.hp_arr.proofs.ArrangementMatroids.{closure-empty}
-use Rattle.hp_arr.proofs.MobiusLaws.{nbc, coefficient-nbc, mobius-meets, mobius-nbc, mobius-by_coatoms, closure-count, size-count}
+use Rattle.hp_arr.proofs.ConeMatroids.{affine_matroid, central}
+use Rattle.hp_flats.proofs.RankLevels.{first-rank, least-flat}
+use Rattle.hp_arr.proofs.MobiusValues.{coefficient-nbc, mobius-meets, mobius-nbc, mobius-by_coatoms, closure-count, size-count}
 use Rattle.hp_mobius.proofs.SignedSums.{sign-sum, sign-turn, small-from, none-signed, terms}
 use Rattle.hp_mobius.proofs.LevelSums.{sum-same, sum-none, sum-rank}
 
@@ -65,7 +65,7 @@ shut true true d x e = ap (λ c. cond c x (pos 0)) e
 shut true false d x e = refl
 shut false b d x e = refl
 
-module _ {K : Type 0} (S : Setting K) where
+module _ {K : Type 0} (S : AffineSetting K) where
   open S use {ring, numbers, arr}
 
   abbrev mu : Set → ℤ
@@ -85,11 +85,14 @@ module _ {K : Type 0} (S : Setting K) where
 
   -- a flat with a member has a rank above 0
   rank-some : (g : Set) → Flats g → g ≢ [] → rk g ≡ suc (rk g - 1)
-  rank-some [] is n = absurd (n refl)
-  rank-some (i ∷ t) is n =
-      let none : Flats [] = ([], empty-set _, sym (closure-empty S)) in
-      let l = rank-strict (over S) [] (i ∷ t) none is refl in
-      omega (arith, l)
+  rank-some g is n = step (rk g) refl
+    where
+      next : (r : ℕ) → suc r ≡ suc (suc r - 1)
+      next r = omega arith
+
+      step : (r : ℕ) → rk g ≡ r → r ≡ suc (r - 1)
+      step zero e = absurd (n (least-flat S g is e))
+      step (suc r) e = next r
 
   -- ---- the value is the sum over all flats
 
@@ -112,7 +115,7 @@ module _ {K : Type 0} (S : Setting K) where
       ∙ sym (sum_over-filter (gained g) (λ f. is_flat ring numbers arr f && (rk f == r)) (sets_within (n S)))
       ∙ sym (sum-rank S r (gained g))
       ∙ sum-same (λ f. cond (f.rank == r) (gained g f.set) (pos 0)) (λ f. gained g f.set) all (λ f c. sym (
-      only (is_within f.set g) (misses_least f.set g) (suc (rk f.set) == rk g) (f.rank == r) (mu f.set) (test f.set ∙ ap (λ k. k == r) (sym ((flats-complete (over S) f).0 c).1)))))
+      only (is_within f.set g) (misses_least f.set g) (suc (rk f.set) == rk g) (f.rank == r) (mu f.set) (test f.set ∙ ap (λ k. k == r) (sym ((flats-complete S f).0 c).1)))))
     where
       g : Set
       g = i ∷ t
@@ -143,10 +146,10 @@ module _ {K : Type 0} (S : Setting K) where
       nothing a b e = omega (arith, ints)
 
       ranked : (h : Flat) → Contains (f ∷ rest) h → h.rank ≡ rk h.set
-      ranked h c = ((flats-complete (over S) h).0 (subst (λ fs. Contains fs h) e (Contains-append_right done (f ∷ rest) h c))).1
+      ranked h c = ((flats-complete S h).0 (subst (λ fs. Contains fs h) e (Contains-append_right done (f ∷ rest) h c))).1
 
       order : Ordered (λ x y. cmp_ranked x y ≡ Less) (f ∷ rest)
-      order = ordered-end _ done (f ∷ rest) (subst (Ordered (λ x y. cmp_ranked x y ≡ Less)) (sym e) (ordered_of cmp_ranked all (flats-rise (over S))))
+      order = ordered-end _ done (f ∷ rest) (subst (Ordered (λ x y. cmp_ranked x y ≡ Less)) (sym e) (ordered_of cmp_ranked all (flats-rise S)))
 
       low : (h : Flat) → Contains (f ∷ rest) h → (f.rank ≤ h.rank) × (h.rank ≡ rk h.set)
       low h c = (at h c, ranked h c)
@@ -163,7 +166,7 @@ module _ {K : Type 0} (S : Setting K) where
   split k f l e = ap (λ x. take k all ++ x ∷ drop (suc k) all) e ∙ ap (λ fs. take k all ++ fs) (sym (drop-cons all k f l)) ∙ take-append-drop k all
 
   ranked-at : (k : ℕ) (f : Flat) → k < length all → f ≡ get_or all k f → Flats f.set × (f.rank ≡ rk f.set)
-  ranked-at k f l e = (flats-complete (over S) f).0 (k, l, sym e)
+  ranked-at k f l e = (flats-complete S f).0 (k, l, sym e)
 
   -- ---- bounds
 
@@ -176,7 +179,7 @@ module _ {K : Type 0} (S : Setting K) where
   -- the absolute value at a flat is a number of sets without broken circuit
   absolute : (f : Set) → Flats f → (c : ℕ) × (mu f *ℤ sign (rk f) ≡ pos c) × (c ≤ 2 ^ 60)
   absolute f is =
-      let test : Set → Bool = λ s. nbc S s && same_set (closure ring numbers arr s) f in
+      let test : Set → Bool = λ s. is_nbc (affine_matroid S) s && same_set ((affine_matroid S).closure s) f in
       let c = length (filter test (sets_within (n S))) in
       (c, ap (λ z. z *ℤ sign (rk f)) (mobius-nbc S f is) ∙ sign_sign (rk f) c, fits c (closure-count S f is))
 
@@ -220,13 +223,13 @@ module _ {K : Type 0} (S : Setting K) where
   unfolding partial
   small-partial done rest e [] is = none
     where
-      zero-rank : (r : ℕ) → r ≤ 0 → (a : ℕ) → suc a ≡ r → ⊥
-      zero-rank r l a p = omega arith
+      zero-rank : (r : ℕ) → r ≡ 0 → (a : ℕ) → suc a ≡ r → ⊥
+      zero-rank r e a p = omega (arith, e, p)
 
       sum : sum_over (λ f. gained [] f.set) done ≡ pos 0
       sum =
           sum-same (λ f. gained [] f.set) (λ f. pos 0) done (λ f c.
-          shut (is_within f.set []) (misses_least f.set []) (suc (rk f.set) == rk []) (mu f.set) (ne_eqb (suc (rk f.set)) (rk []) (λ p. zero-rank (rk []) (rank-low (over S) []) (rk f.set) p)))
+          shut (is_within f.set []) (misses_least f.set []) (suc (rk f.set) == rk []) (mu f.set) (ne_eqb (suc (rk f.set)) (rk []) (λ p. zero-rank (rk []) (first-rank S) (rk f.set) p)))
           ∙ sum-none done
 
       none : IsSmall (neg_ℤ (sum_over (λ f. gained [] f.set) done))
@@ -238,7 +241,7 @@ module _ {K : Type 0} (S : Setting K) where
       let a = absolute g is in
       let whole : sum_over (λ f. gained g f.set) all *ℤ sign k ≡ pos a.0 =
       sym (sign-turn (sum_over (λ f. gained g f.set) all) k) ∙ ap (λ z. z *ℤ sign (suc k)) (sym (whole g is (λ z. cc))) ∙ ap (λ m. mu g *ℤ sign m) (sym r) ∙ a.1 in
-      let x = small-prefix (λ f. gained g f.set) k done rest e (λ h c. one-gain g k r h.set ((flats-complete (over S) h).0 c).0) a.0 whole a.2 in
+      let x = small-prefix (λ f. gained g f.set) k done rest e (λ h c. one-gain g k r h.set ((flats-complete S h).0 c).0) a.0 whole a.2 in
       small (neg_ℤ (sum_over (λ f. gained g f.set) done)) (suc k) x.0 (sign-turn (sum_over (λ f. gained g f.set) done) k ∙ x.1) x.2
 
   -- ---- the sums of one rank
@@ -253,7 +256,7 @@ module _ {K : Type 0} (S : Setting K) where
 
   pub small-rank : (k : ℕ) (done rest : List Flat) → done ++ rest ≡ all → IsSmall (sum_over (of_rank k) done)
   small-rank k done rest e =
-      let test : Set → Bool = λ s. nbc S s && (length s == k) in
+      let test : Set → Bool = λ s. is_nbc (affine_matroid S) s && (central S s && (length s == k)) in
       let c = length (filter test (sets_within (n S))) in
       let x = small-prefix (of_rank k) k done rest e one c (ap (λ z. z *ℤ sign k) (rank-total k) ∙ coefficient-nbc S k) (fits c (size-count S k)) in
       small (sum_over (of_rank k) done) k x.0 x.1 x.2
@@ -262,7 +265,7 @@ module _ {K : Type 0} (S : Setting K) where
       one h c = pick (h.rank == k) refl
         where
           w : Flats h.set × (h.rank ≡ rk h.set)
-          w = (flats-complete (over S) h).0 c
+          w = (flats-complete S h).0 c
 
           pick : (b : Bool) → (h.rank == k) ≡ b → (a : ℕ) × (cond b (mu h.set) (pos 0) *ℤ sign k ≡ pos a)
           pick false p = (0, none-signed (sign k))

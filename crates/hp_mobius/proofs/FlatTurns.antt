@@ -1,4 +1,4 @@
--- One turn of the loop over the flats and their covers: what holds before it, and what it adds.
+-- One turn of the loop over the flats of an affine arrangement and their covers: what holds before it, and what it adds.
 use Rattle.std.specs.Prelude.{◌≡◌, ◌≢◌, ◌+◌, ◌<◌, ℕ, ℤ, List, [], ◌∷◌, ◌++◌, All, Contains, map, length}
 use Rattle.std.specs.List.{AllPairs}
 use Rattle.std.specs.BTreeMap.{BTreeMap}
@@ -8,14 +8,14 @@ use Rattle.hp_sets.specs.Sets.{Set}
 use Rattle.hp_sets.specs.declared.flat.Flat.{Flat}
 use Rattle.hp_arr.specs.Flats.{flats}
 use Rattle.hp_arr.specs.Moebius.{mobius}
-use Rattle.hp_arr.proofs.Setting.{Setting}
+use Rattle.hp_arr.proofs.ConePoints.{AffineSetting}
 use Rattle.hp_flats.specs.Covers.{IsCoverList}
 use Rattle.hp_flats.specs.declared.levels.Covered.{Covered}
 use Rattle.hp_mobius.specs.Partial.{IsAddedUp, IsShared, IsSmall, noted, value_from}
 use Rattle.hp_mobius.proofs.CoverSums.{added-value, added-small, added-next, small-at}
 use Rattle.hp_mobius.proofs.Coefficients.{mapped-at}
 
-module _ {K : Type 0} (S : Setting K) where
+module _ {K : Type 0} (S : AffineSetting K) where
   open S use {ring, numbers, arr}
 
   abbrev all : List Flat

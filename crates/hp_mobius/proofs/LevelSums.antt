@@ -1,4 +1,4 @@
--- Sums over all flats and over those of one rank.
+-- Sums over all flats of an affine arrangement and over those of one rank.
 use Rattle.std.specs.Prelude.{◌≡◌, ℕ, zero, suc, ◌+◌, ◌<◌, ◌≤◌, ◌==◌, cond, List, [], ◌∷◌, map, flat_map, Contains, ◌⊎◌, ℤ, pos, ◌+ℤ◌}
 use Rattle.std.specs.List.{range_with_len}
 use Rattle.std.proofs.lemmas.Bool.{cases_lt, ne_eqb, eq-eqb}
@@ -11,9 +11,8 @@ use Rattle.hp_lists.proofs.Members.{Contains-here, Contains-later}
 use Rattle.hp_sets.specs.Sets.{Set}
 use Rattle.hp_sets.specs.declared.flat.Flat.{Flat}
 use Rattle.hp_arr.specs.Flats.{flats_of_rank, flats}
-use Rattle.hp_arr.proofs.Setting.{Setting, over}
-use Rattle.hp_arr.proofs.Ranks.{rank-dim}
-use Rattle.hp_arr.proofs.FlatList.{flats_of_rank-complete}
+use Rattle.hp_arr.proofs.ConePoints.{AffineSetting}
+use Rattle.hp_arr.proofs.FlatList.{flats_of_rank-complete, flat-rank_dim}
 use Rattle.hp_matroid.proofs.Subsets.{sum_over-append, sum_over-map}
 use Rattle.hp_mobius.proofs.TripleLaw.{no-members}
 
@@ -28,7 +27,7 @@ pub sum-none : {X : Type 0} (xs : List X) → sum_over (λ (x : X). pos 0) xs �
 sum-none [] = refl
 sum-none (x ∷ xs) = ap (λ z. pos 0 +ℤ z) (sum-none xs)
 
-module _ {K : Type 0} (S : Setting K) where
+module _ {K : Type 0} (S : AffineSetting K) where
   open S use {ring, numbers, arr}
 
   -- the flats of the ranks from a on
@@ -79,9 +78,9 @@ module _ {K : Type 0} (S : Setting K) where
       where
         none : arr.dim < k → flats_of_rank ring numbers arr k ≡ []
         none l = no-members (flats_of_rank ring numbers arr k) (λ f c.
-            let e = ((flats_of_rank-complete (over S) k f).0 c).1 in
-            let low = rank-dim (over S) f in
-            omega (arith, l, low, e))
+            let w = (flats_of_rank-complete S k f).0 c in
+            let low = flat-rank_dim S f w.0 in
+            omega (arith, l, low, w.1))
 
         high : (a m : ℕ) → a + m ≤ k → sum_over at (from a m) ≡ pos 0
         high a zero l = refl

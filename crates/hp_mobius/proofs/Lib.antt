@@ -1,13 +1,10 @@
+pub mod Classes
 pub mod Coefficients
 pub mod CoverShares
 pub mod CoverSums
-pub mod Deletions
 pub mod FlatCounts
 pub mod FlatTurns
-pub mod HyperplanePoints
-pub mod KeptPlaces
 pub mod LevelSums
-pub mod RestrictedZeros
-pub mod Restrictions
 pub mod SignedSums
 pub mod TripleLaw
+pub mod TripleSums

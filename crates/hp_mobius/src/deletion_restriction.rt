@@ -3,13 +3,13 @@
 ghost use Rattle.std.specs.Prelude.{◌≡◌, ◌⊎◌, ◌<◌, ◌≤◌, IfOk, IfErr, OnOk, length};
 ghost use Rattle.hp_arr.specs.Flats.{flats};
 ghost use Rattle.hp_arr.specs.Moebius.{poincare};
-ghost use Rattle.hp_arr.specs.Operations.{deletion, restriction};
+ghost use Rattle.hp_arr.specs.Operations.{restriction, deletion};
 ghost use Rattle.hp_flats.specs.Bounds.{most_flats};
 ghost use Rattle.hp_mobius.specs.Triples.{AddsUp};
 
 use crate::polynomials::poincare;
 use hp_algebra::{FiniteField, List};
-use hp_arr::Arr;
+use hp_arr::Aff;
 use hp_flats::FlatStop;
 use std::alloc::Global;
 
@@ -27,23 +27,23 @@ pub struct TriplePi {
 /// the third.
 ///
 /// Errors: `TooMany` exactly where the arrangement has more than `MOST_FLATS` flats; `Memory` where memory is out.
-pub fn triple<K: FiniteField>(alloc: Global, arr: &Arr<K>, i: u32) -> Result<TriplePi, FlatStop>
+pub fn triple<K: FiniteField>(alloc: Global, aff: &Aff<K>, i: u32) -> Result<TriplePi, FlatStop>
     requires low { 1 ≤ i }
-    requires high { i ≤ length arr.now.forms }
-    requires dim { 2 ≤ arr.now.dim }
-    ensures whole { IfOk result (λ t. t.whole ≡ poincare K.ring K.numbers arr.now) }
-    ensures deleted { IfOk result (λ t. t.deleted ≡ poincare K.ring K.numbers (deletion arr.now i)) }
-    ensures restricted { IfOk result (λ t. t.restricted ≡ poincare K.ring K.numbers (restriction K.ring K.inverse arr.now i)) }
+    requires high { i ≤ length aff.now.forms }
+    requires dim { 2 ≤ aff.now.dim }
+    ensures whole { IfOk result (λ t. t.whole ≡ poincare K.ring K.numbers aff.now) }
+    ensures deleted { IfOk result (λ t. t.deleted ≡ poincare K.ring K.numbers (deletion aff.now i)) }
+    ensures restricted { IfOk result (λ t. t.restricted ≡ poincare K.ring K.numbers (restriction K.ring K.inverse aff.now i)) }
     ensures law { IfOk result (λ t. AddsUp t.whole t.deleted t.restricted) }
-    ensures few { OnOk result (length (flats K.ring K.numbers arr.now) ≤ most_flats) }
-    ensures stop { IfErr result (λ e. (e ≡ FlatStop.Memory) ⊎ (most_flats < length (flats K.ring K.numbers arr.now))) }
+    ensures few { OnOk result (length (flats K.ring K.numbers aff.now) ≤ most_flats) }
+    ensures stop { IfErr result (λ e. (e ≡ FlatStop.Memory) ⊎ (most_flats < length (flats K.ring K.numbers aff.now))) }
 {
-    let _dim = arr.dim();
-    let whole = List::of(poincare(alloc, arr)?);
-    let deletion = arr.delete(alloc, i)?;
-    let deleted = pi_of_smaller(alloc, arr, &deletion)?;
-    let restriction = arr.restrict(alloc, i)?;
-    let restricted = pi_of_smaller(alloc, arr, &restriction)?;
+    let _dim = aff.dim();
+    let whole = List::of(poincare(alloc, aff)?);
+    let deletion = aff.delete(alloc, i)?;
+    let deleted = pi_of_smaller(alloc, aff, &deletion)?;
+    let restriction = aff.restrict(alloc, i)?;
+    let restricted = pi_of_smaller(alloc, aff, &restriction)?;
     Ok(TriplePi {
         whole,
         deleted,
@@ -51,15 +51,15 @@ pub fn triple<K: FiniteField>(alloc: Global, arr: &Arr<K>, i: u32) -> Result<Tri
     })
 }
 
-/// The coefficients of the Poincaré polynomial of an arrangement that has no more flats than `arr`.
+/// The coefficients of the Poincaré polynomial of an arrangement that has no more flats than the first.
 fn pi_of_smaller<K: FiniteField>(
     alloc: Global,
-    _arr: &Arr<K>,
-    smaller: &Arr<K>,
+    _aff: &Aff<K>,
+    smaller: &Aff<K>,
 ) -> Result<List<i64>, FlatStop>
-    requires { length (flats K.ring K.numbers smaller.now) ≤ length (flats K.ring K.numbers _arr.now) }
+    requires { length (flats K.ring K.numbers smaller.now) ≤ length (flats K.ring K.numbers _aff.now) }
     ensures value { IfOk result (λ pi. pi ≡ poincare K.ring K.numbers smaller.now) }
-    ensures stop { IfErr result (λ e. (e ≡ FlatStop.Memory) ⊎ (most_flats < length (flats K.ring K.numbers _arr.now))) }
+    ensures stop { IfErr result (λ e. (e ≡ FlatStop.Memory) ⊎ (most_flats < length (flats K.ring K.numbers _aff.now))) }
 {
     match poincare(alloc, smaller) {
         Ok(pi) => Ok(List::of(pi)),

@@ -2,7 +2,7 @@
 
 ghost use Rattle.std.specs.Prelude.{◌≡◌, ◌⊎◌, ◌<◌, ◌≤◌, ◌==◌, if◌then◌else◌, pos, ◌+ℤ◌, ◌*ℤ◌, IfOk, IfErr, OnOk, length, map};
 ghost use Rattle.hp_algebra.specs.Integers.{sign};
-ghost use Rattle.hp_arr.specs.Arrangement.{IsArrangement};
+ghost use Rattle.hp_arr.specs.Arrangement.{IsAffineArrangement};
 ghost use Rattle.hp_arr.specs.Flats.{flats};
 ghost use Rattle.hp_arr.specs.Moebius.{characteristic, mobius, poincare, rank_sum};
 ghost use Rattle.hp_flats.specs.Bounds.{most_flats};
@@ -10,25 +10,26 @@ ghost use Rattle.hp_mobius.specs.Partial.{IsSmall};
 
 use crate::values::moebius;
 use hp_algebra::FiniteField;
-use hp_arr::Arr;
-use hp_flats::{FlatStop, rank};
-use hp_sets::{Flat, HSet};
+use hp_arr::Aff;
+use hp_flats::{FlatStop, total_rank};
+use hp_sets::Flat;
 use std::alloc::Global;
 
 /// The coefficients of the Poincaré polynomial, from degree 0 to the rank of the arrangement: that of degree k is
 /// (-1)^k times the sum of the Möbius values of the flats of rank k.
 ///
 /// Errors: `TooMany` exactly where there are more than `MOST_FLATS` flats; `Memory` where memory is out.
-pub fn poincare<K: FiniteField>(alloc: Global, arr: &Arr<K>) -> Result<Vec<i64>, FlatStop>
-    ensures value { IfOk result (λ pi. pi.items ≡ poincare K.ring K.numbers arr.now) }
-    ensures few { OnOk result (length (flats K.ring K.numbers arr.now) ≤ most_flats) }
-    ensures stop { IfErr result (λ e. (e ≡ FlatStop.Memory) ⊎ (most_flats < length (flats K.ring K.numbers arr.now))) }
+pub fn poincare<K: FiniteField>(alloc: Global, aff: &Aff<K>) -> Result<Vec<i64>, FlatStop>
+    ensures value { IfOk result (λ pi. pi.items ≡ poincare K.ring K.numbers aff.now) }
+    ensures few { OnOk result (length (flats K.ring K.numbers aff.now) ≤ most_flats) }
+    ensures stop { IfErr result (λ e. (e ≡ FlatStop.Memory) ⊎ (most_flats < length (flats K.ring K.numbers aff.now))) }
 {
-    let values = moebius(alloc, arr)?;
-    let rank = rank(alloc, arr, HSet::first(arr.len()))?;
+    let values = moebius(alloc, aff)?;
+    let _dim = aff.dim();
+    let rank = total_rank(alloc, aff)?;
     let mut coefficients = Vec::new(alloc);
     for k in 0..rank + 1 {
-        coefficients.push(signed(rank_total(arr, &values, k), k))?;
+        coefficients.push(signed(rank_total(aff, &values, k), k))?;
     }
     Ok(coefficients)
 }
@@ -37,28 +38,28 @@ pub fn poincare<K: FiniteField>(alloc: Global, arr: &Arr<K>) -> Result<Vec<i64>,
 /// the sum of the Möbius values of the flats of rank k.
 ///
 /// Errors: `TooMany` exactly where there are more than `MOST_FLATS` flats; `Memory` where memory is out.
-pub fn characteristic<K: FiniteField>(alloc: Global, arr: &Arr<K>) -> Result<Vec<i64>, FlatStop>
-    ensures value { IfOk result (λ chi. chi.items ≡ characteristic K.ring K.numbers arr.now) }
-    ensures few { OnOk result (length (flats K.ring K.numbers arr.now) ≤ most_flats) }
-    ensures stop { IfErr result (λ e. (e ≡ FlatStop.Memory) ⊎ (most_flats < length (flats K.ring K.numbers arr.now))) }
+pub fn characteristic<K: FiniteField>(alloc: Global, aff: &Aff<K>) -> Result<Vec<i64>, FlatStop>
+    ensures value { IfOk result (λ chi. chi.items ≡ characteristic K.ring K.numbers aff.now) }
+    ensures few { OnOk result (length (flats K.ring K.numbers aff.now) ≤ most_flats) }
+    ensures stop { IfErr result (λ e. (e ≡ FlatStop.Memory) ⊎ (most_flats < length (flats K.ring K.numbers aff.now))) }
 {
-    let values = moebius(alloc, arr)?;
-    let dim = arr.dim();
+    let values = moebius(alloc, aff)?;
+    let dim = aff.dim();
     let mut coefficients = Vec::new(alloc);
     for k in 0..dim + 1 {
-        coefficients.push(rank_total(arr, &values, dim - k))?;
+        coefficients.push(rank_total(aff, &values, dim - k))?;
     }
     Ok(coefficients)
 }
 
 /// The sum of the values of the flats of one rank.
-fn rank_total<K: FiniteField>(arr: &Arr<K>, values: &[(Flat, i64)], rank: u32) -> i64
-    requires { values.now ≡ map (λ f. (f, mobius K.ring K.numbers arr.now f.set)) (flats K.ring K.numbers arr.now) }
-    ensures value { result ≡ rank_sum K.ring K.numbers arr.now rank }
+fn rank_total<K: FiniteField>(aff: &Aff<K>, values: &[(Flat, i64)], rank: u32) -> i64
+    requires { values.now ≡ map (λ f. (f, mobius K.ring K.numbers aff.now f.set)) (flats K.ring K.numbers aff.now) }
+    ensures value { result ≡ rank_sum K.ring K.numbers aff.now rank }
     ensures small { IsSmall result }
-    ensures lawful { IsArrangement K.ring K.numbers arr.now }
+    ensures lawful { IsAffineArrangement K.ring K.numbers aff.now }
 {
-    let _dim = arr.dim();
+    let _dim = aff.dim();
     let mut total = 0;
     for k in 0..values.len() {
         total = sum_of(total, value_at(values[k], rank));

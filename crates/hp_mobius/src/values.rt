@@ -9,7 +9,7 @@ ghost use Rattle.hp_mobius.specs.Partial.{IsAddedUp, IsShared, IsSmall, misses_l
 ghost use Rattle.hp_sets.specs.Sets.{Set};
 
 use hp_algebra::{FiniteField, NoMem};
-use hp_arr::Arr;
+use hp_arr::Aff;
 use hp_flats::{FlatStop, flats_with_covers};
 use hp_sets::{Flat, HSet};
 use std::alloc::Global;
@@ -22,13 +22,13 @@ use std::collections::BTreeMap;
 /// that miss its least member.
 ///
 /// Errors: `TooMany` exactly where there are more than `MOST_FLATS` flats; `Memory` where memory is out.
-pub fn moebius<K: FiniteField>(alloc: Global, arr: &Arr<K>) -> Result<Vec<(Flat, i64)>, FlatStop>
-    ensures value { IfOk result (λ values. values.items ≡ map (λ f. (f, mobius K.ring K.numbers arr.now f.set)) (flats K.ring K.numbers arr.now)) }
-    ensures equations { IsMobius K.ring K.numbers arr.now (mobius K.ring K.numbers arr.now) }
-    ensures few { OnOk result (length (flats K.ring K.numbers arr.now) ≤ most_flats) }
-    ensures stop { IfErr result (λ e. (e ≡ FlatStop.Memory) ⊎ (most_flats < length (flats K.ring K.numbers arr.now))) }
+pub fn moebius<K: FiniteField>(alloc: Global, aff: &Aff<K>) -> Result<Vec<(Flat, i64)>, FlatStop>
+    ensures value { IfOk result (λ values. values.items ≡ map (λ f. (f, mobius K.ring K.numbers aff.now f.set)) (flats K.ring K.numbers aff.now)) }
+    ensures equations { IsMobius K.ring K.numbers aff.now (mobius K.ring K.numbers aff.now) }
+    ensures few { OnOk result (length (flats K.ring K.numbers aff.now) ≤ most_flats) }
+    ensures stop { IfErr result (λ e. (e ≡ FlatStop.Memory) ⊎ (most_flats < length (flats K.ring K.numbers aff.now))) }
 {
-    let covered = flats_with_covers(alloc, arr)?;
+    let covered = flats_with_covers(alloc, aff)?;
     let mut sums = BTreeMap::new(alloc);
     let mut values = Vec::new(alloc);
     for k in 0..covered.len() {

@@ -14,11 +14,11 @@ use Rattle.hp_flats.specs.declared.stop.FlatStop.{FlatStop}
 use Rattle.hp_flats.specs.declared.stop.FlatStop.TheVariants.{Memory}
 use Rattle.hp_flats.proofs.ValuePoints.{outside-place}
 use Rattle.hp_flats.specs.Covers.{IsCoverList}
-use Rattle.hp_arr.proofs.ConePoints.{index-cone, cone_over}
+use Rattle.hp_arr.proofs.ConePoints.{affine_setting, index-cone, cone_over}
 use Rattle.hp_arr.proofs.ConeMatroids.{affine_matroid, central, central-laws, flat-set}
 use Rattle.hp_flats.proofs.ClassValues.{flat-cone, infinity-place}
 use Rattle.hp_matroid.proofs.CentralCovers as matroid
-use Rattle.hp_flats.proofs.CoverSteps.{affine_setting, flat-of, IsCovering, cone-widths, cover-start, cover-class, cover-rank, cover-entry, cover-turn, cover-end}
+use Rattle.hp_flats.proofs.CoverSteps.{flat-of, IsCovering, cone-widths, cover-start, cover-class, cover-rank, cover-entry, cover-turn, cover-end}
 use Rattle.hp_flats.proofs.covers.covers_of.Goals as goal
 
 pub place_off-requires-clause-widths : goal.place_off-requires-clause-widths

@@ -4,7 +4,8 @@ use Rattle.hp_arr.specs.Arrangement.{IsAffineArrangement}
 use Rattle.hp_arr.specs.Flats.{rank, IsFlat}
 use Rattle.hp_sets.specs.Sets.{Set, IsSetWithin}
 use Rattle.hp_flats.specs.Levels.{AreOfRank}
-use Rattle.hp_flats.proofs.CoverSteps.{IsCovering, affine_setting}
+use Rattle.hp_flats.proofs.CoverSteps.{IsCovering}
+use Rattle.hp_arr.proofs.ConePoints.{affine_setting}
 use Rattle.hp_flats.proofs.covers.covers_of.Given as goal
 
 abbrev pub invariant-loop-i : goal.invariant-loop-i

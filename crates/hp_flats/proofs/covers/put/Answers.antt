@@ -1,6 +1,6 @@
 use Rattle.hp_arr.specs.Flats.{rank, flats_of_rank}
 use Rattle.hp_flats.specs.Levels.{IsEntry, AreOfRank}
-use Rattle.hp_flats.proofs.CoverSteps.{affine_setting}
+use Rattle.hp_arr.proofs.ConePoints.{affine_setting}
 use Rattle.hp_flats.proofs.CoverPuts.{put-keys, put-there, put-next, put-many}
 use Rattle.std.proofs.Common.{◌≡◌, ◌↔◌, ◌⊎◌, ◌<◌, length, Contains, sym, subst, ◌∙◌, arith, inl, inr}
 use Rattle.std.specs.BTreeMap.{insert_entry}

@@ -1,7 +1,6 @@
 use Rattle.hp_flats.specs.Covers.{IsCoverList}
 use Rattle.hp_flats.specs.Levels.{IsLevel, flats_below, values_of}
-use Rattle.hp_flats.proofs.CoverSteps.{affine_setting}
-use Rattle.hp_arr.proofs.ConePoints.{coned}
+use Rattle.hp_arr.proofs.ConePoints.{affine_setting, coned}
 use Rattle.std.proofs.Common.{◌≡◌, ◌+◌, List, [], ◌∷◌, ◌++◌, map, length, All, sym, ap, subst, ◌∙◌, arith}
 use Rattle.std.proofs.lemmas.List.{length-map}
 use Rattle.std.proofs.lemmas.List.Elements.{All-nil}

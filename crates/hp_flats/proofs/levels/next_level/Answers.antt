@@ -1,7 +1,7 @@
 use Rattle.hp_arr.specs.Flats.{rank, flats, flats_of_rank}
 use Rattle.hp_flats.specs.Covers.{IsCover, IsCoverList}
 use Rattle.hp_flats.specs.Levels.{IsEntry, AreOfRank, IsLevel, flats_below}
-use Rattle.hp_flats.proofs.CoverSteps.{affine_setting}
+use Rattle.hp_arr.proofs.ConePoints.{affine_setting}
 use Rattle.std.proofs.Common.{rules, ◌≡◌, ◌⊎◌, ◌+◌, ◌-◌, ◌<◌, ◌≤◌, IfErr, List, [], ◌∷◌, ◌++◌, map, length, Contains, refl, sym, ap, subst, ◌∙◌, arith, inl, inr}
 use Rattle.std.specs.BTreeMap.{keys}
 use Rattle.std.proofs.lemmas.List.{append-nil, length-map}

@@ -1,7 +1,7 @@
 use Rattle.std.proofs.Common.{◌≡◌, ◌↔◌, List, map, Contains, sym, ap, subst, ◌∙◌}
 use Rattle.std.specs.List.Sorted.{IsStrictlySortedBy}
 use Rattle.hp_arr.specs.Flats.{cmp_ranked, rank, IsFlat}
-use Rattle.hp_flats.proofs.CoverSteps.{affine_setting}
+use Rattle.hp_arr.proofs.ConePoints.{affine_setting}
 use Rattle.hp_arr.proofs.FlatList.{flats-complete, flats-rise}
 use Rattle.hp_sets.specs.declared.flat.Flat.{Flat}
 use Rattle.hp_flats.specs.declared.levels.Covered.{Covered}

@@ -5,4 +5,4 @@ use Rattle.hp_mobius.proofs.polynomials.characteristic.Given as goal
 
 -- the coefficients so far
 abbrev pub invariant-loop-k : goal.invariant-loop-k
-invariant-loop-k g l = l.coefficients.items ≡ map (λ k. rank_sum g.K.Ring.ring g.K.FiniteField.numbers l.arr (l.arr.dim - k)) (below l.k)
+invariant-loop-k g l = l.coefficients.items ≡ map (λ k. rank_sum g.K.Ring.ring g.K.FiniteField.numbers l.aff (l.aff.dim - k)) (below l.k)
