@@ -15,11 +15,11 @@ use Rattle.hp_sets.proofs.SetLaws.{contains-Contains, Contains-contains, set_mem
 use Rattle.hp_sets.proofs.SetMembers.{without-members, members-without, without-set}
 use Rattle.hp_sets.proofs.SetWithin.{is_within-members, members-is_within, length-is_properly_within}
 use Rattle.hp_arr.specs.Flats.{is_dependent, is_circuit}
-use Rattle.hp_arr.proofs.Cuts.{IsIndex, set-indices, cut-same, set-within_word}
+use Rattle.hp_arr.proofs.Cuts.{IsIndex, set-indices, cut-same}
 use Rattle.hp_arr.proofs.Matroid.{independent-part}
 use Rattle.hp_arr.proofs.OverField.{IsOverField}
 use Rattle.hp_arr.proofs.Ranks.{rank-cut, rank-keeps, rank-adds, rank-low, in_flat}
-use Rattle.hp_arr.proofs.Setting.{Setting, over, n, cl, rk}
+use Rattle.hp_arr.proofs.Setting.{Setting, over, n, cl, rk, set-within_word}
 use Rattle.hp_matroid.proofs.Listing.{sets_within-listing}
 use Rattle.hp_matroid.proofs.RisingSets.{set-rises, set-from_rises}
 
@@ -185,7 +185,7 @@ module _ {K : Type 0} (S : Setting K) where
   less T s = without_member T s
 
   pub in_less : (T : Set) (s t : ℕ) → IsSetOf T → Contains T t → (t ≡ s → ⊥) → Contains (less T s) t
-  in_less T s t h c f = members-without T s t (set-within_word o T h) c (λ e. f (sym e))
+  in_less T s t h c f = members-without T s t (set-within_word S T h) c (λ e. f (sym e))
 
   -- a member of an independent set is not in the closure of the others
   pub independent-least : (T : Set) (s : ℕ) → IsSetOf T → rk S T ≡ length T → Contains T s

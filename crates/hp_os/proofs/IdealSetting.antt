@@ -6,8 +6,7 @@ use Rattle.hp_sums.specs.FiniteSums.{IsSum, HasValues}
 use Rattle.hp_sums.proofs.SumSetting.{SumSetting}
 use Rattle.hp_sums.proofs.WeightedSums.{weighted}
 use Rattle.hp_arr.specs.Flats.{is_dependent}
-use Rattle.hp_arr.proofs.Setting.{Setting, n, over}
-use Rattle.hp_arr.proofs.Cuts.{set-within_word}
+use Rattle.hp_arr.proofs.Setting.{Setting, n, over, set-within_word}
 use Rattle.hp_exterior.specs.Exterior.{Ext}
 use Rattle.hp_exterior.specs.ExteriorSetting.{ext_setting}
 use Rattle.hp_exterior.proofs.Functionals.{Values}
@@ -60,4 +59,4 @@ module _ {K : Type 0} (S : Setting K) where
 
   -- a set of hyperplanes is one of numbers from 1 to 64
   pub wide : (s : Set) → IsSetWithin (n S) s → IsSetWithin 64 s
-  wide s h = set-within_word (over S) s h
+  wide s h = set-within_word S s h
