@@ -6,7 +6,8 @@ use Rattle.std.proofs.lemmas.List.{get_or_append_left, get_or_push, length-appen
 use Rattle.std.proofs.lemmas.List.Elements.{All-nil, All-head}
 use Rattle.hp_lists.proofs.Members.{Contains-here, Contains-none}
 use Rattle.hp_sets.specs.Sets.{Set}
-use Rattle.hp_arr.specs.Flats.{total_rank}
+use Rattle.hp_arr.specs.Flats.{rank, total_rank}
+use Rattle.hp_arr.proofs.CentralCase.{total-all}
 use Rattle.hp_arr.proofs.Setting.{Setting, over}
 use Rattle.hp_arr.proofs.Cuts.{set-indices}
 use Rattle.hp_arr.proofs.Ranks.{rank-total}
@@ -33,7 +34,7 @@ module _ {K : Type 0} (S : Setting K) where
   nbc-none k l = step (N S k) (λ s c.
       let w = nbc-is S k s c in
       let e = ((nbc-law S s w.0).0 w.1).0 in
-      let h = rank-total (over S) s (set-indices arr s w.0) in
+      let h = subst (λ m. rank ring numbers arr s ≤ m) (sym (total-all S)) (rank-total (over S) s (set-indices arr s w.0)) in
       above (length s) _ w.2 e h)
     where
       above : (s r : ℕ) → s ≡ k → r ≡ s → r ≤ total_rank ring numbers arr → ⊥

@@ -1,15 +1,17 @@
 //! The dimensions of the cohomology.
 
 ghost use Rattle.std.specs.Prelude.{◌≡◌, ◌⊎◌, ◌<◌, ◌≤◌, IfOk, IfErr, OnOk, length};
+ghost use Rattle.hp_arr.specs.Arrangement.{max_dim};
 ghost use Rattle.hp_arr.specs.Circuits.{nbc_sets_of_size};
+ghost use Rattle.hp_arr.specs.Flats.{total_rank};
 ghost use Rattle.hp_aomoto.specs.AomotoCohomology.{AreAomotoNumbers, HasManyNbcSets, HasFewNbcSets};
 
 use crate::products::{form, product_matrix};
 use crate::stop::{AomotoStop, MOST_SETS};
-use hp_algebra::FiniteField;
-use hp_arr::Arr;
+use hp_algebra::{FiniteField, NoMem};
+use hp_arr::{Aff, Arr};
 use hp_circuits::{NbcStop, nbc_of_size};
-use hp_flats::rank;
+use hp_flats::total_rank;
 use hp_sets::HSet;
 use std::alloc::Global;
 
@@ -24,6 +26,16 @@ fn sets_of<K: FiniteField>(alloc: Global, arr: &Arr<K>, k: u32) -> Result<Vec<HS
         Err(NbcStop::TooMany) => Err(AomotoStop::TooMany),
         Err(NbcStop::Memory) => Err(AomotoStop::Memory),
     }
+}
+
+/// The greatest degree: the rank of the arrangement.
+fn top_degree<K: FiniteField>(alloc: Global, arr: &Arr<K>) -> Result<u32, NoMem>
+    ensures value { IfOk result (λ r. r ≡ total_rank K.ring K.numbers arr.now) }
+    ensures low { IfOk result (λ r. r ≤ max_dim) }
+{
+    let _lawful = arr.len();
+    let aff = Aff::of(alloc, arr)?;
+    Ok(total_rank(alloc, &aff)?)
 }
 
 /// The dimensions of the cohomology of the Orlik-Solomon algebra under left multiplication by the sum of w_i e_i, for the
@@ -41,7 +53,8 @@ pub fn aomoto<K: FiniteField>(
     ensures few { OnOk result (HasFewNbcSets K.ring K.numbers arr.now 1000) }
     ensures stop { IfErr result (λ e. (e ≡ AomotoStop.Memory) ⊎ HasManyNbcSets K.ring K.numbers arr.now 1000) }
 {
-    let top = rank(alloc, arr, HSet::first(arr.len()))?;
+    let _lawful = arr.len();
+    let top = top_degree(alloc, arr)?;
     let omega = form(alloc, arr, weights)?;
     let mut out: Vec<u32> = Vec::new(alloc);
     let mut sets = sets_of(alloc, arr, 0)?;

@@ -1,13 +1,9 @@
 use Rattle.std.proofs.Common.{rules, ◌≡◌, ◌⊎◌, ◌<◌, ◌≤◌, ◌+◌, ◌-◌, ℕ, suc, ◌∷◌, [], ◌++◌, IfErr, length, sym, ap, subst, ◌∙◌, arith, inl, inr}
 use Rattle.std.proofs.lemmas.Bool.{cases_lt}
 use Rattle.std.proofs.lemmas.Result.{IfErr-weaker}
-use Rattle.hp_lists.specs.Lists.{one_to}
-use Rattle.hp_sets.specs.Sets.{IsSetWithin}
-use Rattle.hp_sets.proofs.SetLaws.{one_to-set}
 use Rattle.hp_arr.specs.Circuits.{nbc_sets_of_size}
-use Rattle.hp_arr.specs.Flats.{rank, total_rank}
-use Rattle.hp_arr.proofs.Ranks.{rank-dim}
-use Rattle.hp_arr.proofs.Setting.{Setting, setting, over}
+use Rattle.hp_arr.specs.Flats.{total_rank}
+use Rattle.hp_arr.proofs.Setting.{Setting, setting}
 use Rattle.hp_aomoto.specs.declared.stop.AomotoStop.{AomotoStop}
 use Rattle.hp_aomoto.specs.declared.stop.AomotoStop.TheVariants.{Memory}
 use Rattle.hp_aomoto.specs.AomotoCohomology.{AreCohomologyDimensions, HasManyNbcSets}
@@ -15,16 +11,8 @@ use Rattle.hp_aomoto.specs.ProductMatrices.{IsRankBefore}
 use Rattle.hp_aomoto.proofs.AomotoNumbers.{dimension-step, numbers_more, nbc-none}
 use Rattle.hp_aomoto.proofs.numbers.aomoto.Goals as goal
 
-pub rank-requires : goal.rank-requires
-rank-requires g c =
-    let n = length c.args.arr.now.forms in
-    subst (IsSetWithin n) (sym (c.first.ensures.value ∙ ap one_to c.len.ensures.value)) (one_to-set n)
-
 pub overflow_add-k-end : goal.overflow_add-k-end
-overflow_add-k-end g c =
-    let lawful = c.len.ensures.lawful in
-    let S = setting g.met.K.Field.field_laws g.met.K.FiniteField.numbering lawful in
-    omega (arith, c.in_ok-top.ensures.value, rank-dim (over S) c.first.result, lawful.dim_high)
+overflow_add-k-end g c = omega (arith, c.in_ok-top.ensures.low)
 
 pub returns-in_err-next-clause-stop : goal.returns-in_err-next-clause-stop
 returns-in_err-next-clause-stop g c =
@@ -37,7 +25,7 @@ returns-in_err-next-clause-stop g c =
 
 pub overflow_sub-len : goal.overflow_sub-len
 overflow_sub-len g c =
-    let S = setting g.met.K.Field.field_laws g.met.K.FiniteField.numbering c.len.ensures.lawful in
+    let S = setting g.met.K.Field.field_laws g.met.K.FiniteField.numbering c.len-lawful.ensures.lawful in
     let w = dimension-step S c.args.weights.now c.in_ok-omega.ensures.values c.loop-k.k c.in_ok-m.m c.loop-k.before c.in_ok-after.after
     c.loop-k.invariant.before c.in_ok-m.ensures c.in_ok-after.ensures.dimension in
     let e : c.len-in-loop-k.result ≡ length c.loop-k.sets.items = omega arith in
@@ -46,7 +34,7 @@ overflow_sub-len g c =
 
 pub overflow_sub-len-in-loop-k : goal.overflow_sub-len-in-loop-k
 overflow_sub-len-in-loop-k g c =
-    let S = setting g.met.K.Field.field_laws g.met.K.FiniteField.numbering c.len.ensures.lawful in
+    let S = setting g.met.K.Field.field_laws g.met.K.FiniteField.numbering c.len-lawful.ensures.lawful in
     let w = dimension-step S c.args.weights.now c.in_ok-omega.ensures.values c.loop-k.k c.in_ok-m.m c.loop-k.before c.in_ok-after.after
     c.loop-k.invariant.before c.in_ok-m.ensures c.in_ok-after.ensures.dimension in
     let e : c.len-in-loop-k.result ≡ length c.loop-k.sets.items = omega arith in
@@ -59,7 +47,7 @@ loop-k-preserved g c =
     let numbers = g.K.FiniteField.numbers in
     let arr = c.args.arr.now in
     let ws = c.args.weights.now in
-    let S = setting g.met.K.Field.field_laws g.met.K.FiniteField.numbering c.len.ensures.lawful in
+    let S = setting g.met.K.Field.field_laws g.met.K.FiniteField.numbering c.len-lawful.ensures.lawful in
     let k = c.loop-k.k in
     let N = nbc_sets_of_size ring numbers arr in
     let w = dimension-step S ws c.in_ok-omega.ensures.values k c.in_ok-m.m c.loop-k.before c.in_ok-after.after
@@ -82,12 +70,6 @@ loop-k-preserved g c =
       ];
     }
 
--- the sum over all hyperplanes has the total rank
-top-is : {K : Type 0} (S : Setting K) (s : _) (r : ℕ) → r ≡ rank S.ring S.numbers S.arr s
-    → s ≡ one_to (length S.arr.forms) → r ≡ total_rank S.ring S.numbers S.arr
-unfolding total_rank
-top-is S s r e f = e ∙ ap (rank S.ring S.numbers S.arr) f
-
 -- sizes above the rank have no sets
 few-all : {K : Type 0} (S : Setting K) (k : ℕ) → total_rank S.ring S.numbers S.arr < k
     → ((j : ℕ) → j ≤ k → length (nbc_sets_of_size S.ring S.numbers S.arr j) ≤ 1000)
@@ -99,14 +81,14 @@ few-all S k h f j = elim (cases_lt k j) [
 
 pub returns-clause-value : goal.returns-clause-value
 returns-clause-value g c =
-    let S = setting g.met.K.Field.field_laws g.met.K.FiniteField.numbering c.len.ensures.lawful in
-    let top = top-is S c.first.result c.in_ok-top.top c.in_ok-top.ensures.value (c.first.ensures.value ∙ ap one_to c.len.ensures.value) in
+    let S = setting g.met.K.Field.field_laws g.met.K.FiniteField.numbering c.len-lawful.ensures.lawful in
+    let top = c.in_ok-top.ensures.value in
     let e : c.loop-k.k ≡ c.in_ok-top.top + 1 = omega arith in
     subst (λ k. AreCohomologyDimensions g.K.Ring.ring g.K.FiniteField.numbers c.args.arr.now c.args.weights.now k c.loop-k.out.items) (e ∙ ap (λ t. t + 1) top) c.loop-k.invariant.dimensions
 
 pub returns-clause-few : goal.returns-clause-few
 returns-clause-few g c =
-    let S = setting g.met.K.Field.field_laws g.met.K.FiniteField.numbering c.len.ensures.lawful in
-    let top = top-is S c.first.result c.in_ok-top.top c.in_ok-top.ensures.value (c.first.ensures.value ∙ ap one_to c.len.ensures.value) in
+    let S = setting g.met.K.Field.field_laws g.met.K.FiniteField.numbering c.len-lawful.ensures.lawful in
+    let top = c.in_ok-top.ensures.value in
     let e : c.loop-k.k ≡ c.in_ok-top.top + 1 = omega arith in
     few-all S c.loop-k.k (omega (arith, e, top)) c.loop-k.invariant.few
