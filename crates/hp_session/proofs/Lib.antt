@@ -1,10 +1,10 @@
+pub mod CentralFlats
 pub mod ExpressionElements
 pub mod ExpressionValues
 pub mod Forms
 pub mod GeneratorRefusals
 pub mod KeptResolutions
 pub mod Lookups
-pub mod Ranks
 pub mod Tables
 mod MultiplicityBounds
 mod DerivationLimits

@@ -19,6 +19,7 @@ ghost use Rattle.hp_session.specs.Steps.{Answers};
 ghost use Rattle.hp_session.specs.Stops.{StopsBy, ask_refusal, question_refusal};
 
 use crate::building::{elements_of, index};
+use crate::central;
 use crate::derivations::{der, gb};
 use crate::expressions::expression;
 use crate::resolutions::{free, resolve};
@@ -34,7 +35,6 @@ use hp_groebner::Limits;
 use hp_os::normal_form;
 use hp_render::{Answer, AskWord, LimitKind, Refusal};
 use hp_script::{Name, Product, Question};
-use hp_sets::HSet;
 use std::alloc::Global;
 
 /// The answer of a question about the arrangement of this name.
@@ -99,12 +99,11 @@ fn hyperplanes<K: FiniteField>(alloc: Global, arr: &Arr<K>) -> Result<Answer<K>,
     })
 }
 
-/// The rank of all hyperplanes.
+/// The rank of the arrangement.
 fn rank<K: FiniteField>(alloc: Global, arr: &Arr<K>) -> Result<Answer<K>, NoMem>
     ensures { IfOk result (λ a. a ≡ Answer.Rank (total_rank K.ring K.numbers arr.now)) }
 {
-    let all = HSet::first(arr.len());
-    Ok(Answer::Rank(hp_flats::rank(alloc, arr, all)?))
+    Ok(Answer::Rank(central::total_rank(alloc, arr)?))
 }
 
 /// The flats of the arrangement, or that there are too many.
@@ -112,7 +111,7 @@ fn flats<K: FiniteField>(alloc: Global, arr: &Arr<K>) -> Result<Answer<K>, NoMem
     ensures { let all = Answer.Flats (flats K.ring K.numbers arr.now) in
         IfOk result (λ a. a ≡ unless_many_flats K.ring K.numbers arr.now AskWord.Flats all) }
 {
-    match hp_flats::flats(alloc, arr) {
+    match central::flats(alloc, arr) {
         Ok(flats) => Ok(Answer::Flats(List::of(flats))),
         Err(stop) => many_flats(stop, AskWord::Flats),
     }
@@ -123,7 +122,7 @@ fn poincare<K: FiniteField>(alloc: Global, arr: &Arr<K>) -> Result<Answer<K>, No
     ensures { let pi = Answer.Poincare (poincare K.ring K.numbers arr.now) in
         IfOk result (λ a. a ≡ unless_many_flats K.ring K.numbers arr.now AskWord.Poincare pi) }
 {
-    match hp_mobius::poincare(alloc, arr) {
+    match central::poincare(alloc, arr) {
         Ok(pi) => Ok(Answer::Poincare(List::of(pi))),
         Err(stop) => many_flats(stop, AskWord::Poincare),
     }
@@ -134,7 +133,7 @@ fn characteristic<K: FiniteField>(alloc: Global, arr: &Arr<K>) -> Result<Answer<
     ensures { let chi = Answer.Characteristic (characteristic K.ring K.numbers arr.now) in
         IfOk result (λ a. a ≡ unless_many_flats K.ring K.numbers arr.now AskWord.Characteristic chi) }
 {
-    match hp_mobius::characteristic(alloc, arr) {
+    match central::characteristic(alloc, arr) {
         Ok(chi) => Ok(Answer::Characteristic(List::of(chi))),
         Err(stop) => many_flats(stop, AskWord::Characteristic),
     }
@@ -153,7 +152,7 @@ fn triple<K: FiniteField>(alloc: Global, arr: &Arr<K>, i: u64) -> Result<Answer<
         return Err(Stop::Refused(Refusal::Dimension));
     }
     let i = index(arr, i)?;
-    match hp_mobius::triple(alloc, arr, i) {
+    match central::triple(alloc, arr, i) {
         Ok(pi) => Ok(Answer::Triple {
             whole: pi.whole,
             deleted: pi.deleted,

@@ -3,6 +3,7 @@
 
 mod answering;
 mod building;
+mod central;
 mod derivations;
 mod expressions;
 mod graded;

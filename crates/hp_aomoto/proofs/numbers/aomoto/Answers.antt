@@ -28,7 +28,7 @@ overflow_sub-len g c =
     let S = setting g.met.K.Field.field_laws g.met.K.FiniteField.numbering c.len-lawful.ensures.lawful in
     let w = dimension-step S c.args.weights.now c.in_ok-omega.ensures.values c.loop-k.k c.in_ok-m.m c.loop-k.before c.in_ok-after.after
     c.loop-k.invariant.before c.in_ok-m.ensures c.in_ok-after.ensures.dimension in
-    let e : c.len-in-loop-k.result ≡ length c.loop-k.sets.items = omega arith in
+    let e : c.len.result ≡ length c.loop-k.sets.items = omega arith in
     let f = ap length c.loop-k.invariant.sets in
     omega (arith, w.0, e, f)
 
@@ -37,7 +37,7 @@ overflow_sub-len-in-loop-k g c =
     let S = setting g.met.K.Field.field_laws g.met.K.FiniteField.numbering c.len-lawful.ensures.lawful in
     let w = dimension-step S c.args.weights.now c.in_ok-omega.ensures.values c.loop-k.k c.in_ok-m.m c.loop-k.before c.in_ok-after.after
     c.loop-k.invariant.before c.in_ok-m.ensures c.in_ok-after.ensures.dimension in
-    let e : c.len-in-loop-k.result ≡ length c.loop-k.sets.items = omega arith in
+    let e : c.len.result ≡ length c.loop-k.sets.items = omega arith in
     let f = ap length c.loop-k.invariant.sets in
     omega (arith, w.0, e, f)
 
@@ -54,7 +54,7 @@ loop-k-preserved g c =
     c.loop-k.invariant.before c.in_ok-m.ensures c.in_ok-after.ensures.dimension in
     let next : suc k ≡ k + 1 = omega arith in
     let low = c.loop-k.invariant.few k (omega arith) in
-    let e : c.len-in-loop-k.result ≡ length c.loop-k.sets.items = omega arith in
+    let e : c.len.result ≡ length c.loop-k.sets.items = omega arith in
     let f = ap length c.loop-k.invariant.sets in
     let b = length (N k) - c.loop-k.before - c.in_ok-after.after in
     let pushed : c.push.new.self.items ≡ c.loop-k.out.items ++ b ∷ [] =
