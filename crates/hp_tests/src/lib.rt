@@ -5,6 +5,8 @@
 #![tactic(auto)]
 
 #[cfg(test)]
+mod affine;
+#[cfg(test)]
 mod algebra;
 #[cfg(test)]
 mod circuits;
