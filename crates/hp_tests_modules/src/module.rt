@@ -23,7 +23,7 @@ type Terms<'a> = &'a [(i64, u16, u16)];
 fn poly(alloc: Global, terms: Terms) -> Result<Poly<K>, NoMem> {
     let mut list = Vec::new(alloc);
     for (c, a, b) in terms {
-        let mono = Mono::from_exps([a % 100, b % 100, 0, 0, 0, 0, 0, 0]);
+        let mono = Mono::from_exps([a % 100, b % 100, 0, 0, 0, 0, 0, 0, 0, 0]);
         list.push((mono, K::from_i64(*c)))?;
     }
     Poly::from_terms(alloc, list)

@@ -14,7 +14,7 @@ type Terms<'a> = &'a [(i64, u16, u16)];
 
 /// x^a y^b.
 fn monomial(a: u16, b: u16) -> Mono {
-    Mono::from_exps([a % 100, b % 100, 0, 0, 0, 0, 0, 0])
+    Mono::from_exps([a % 100, b % 100, 0, 0, 0, 0, 0, 0, 0, 0])
 }
 
 /// The sum of these terms.
