@@ -111,6 +111,28 @@ class Freeness:
         return products == [[int(i == j) for j in range(len(values))] for i in range(len(values))]
 
 
+@dataclass(frozen=True)
+class Certificate:
+    """Whether the module of logarithmic derivations is free, shown by a basis and its cofactor matrix.
+
+    Both products of the matrix whose rows are the basis and the cofactor matrix are Q times the identity, where Q is the
+    product of the forms with their multiplicities. Where it is not free there is the number of generators alone.
+    """
+
+    is_free: bool
+    generators: int
+    basis: Tuple[GradedVector, ...] = ()
+    cofactor: Tuple[Tuple[Polynomial, ...], ...] = ()
+
+    def __bool__(self) -> bool:
+        return self.is_free
+
+    @property
+    def exponents(self) -> Optional[Tuple[int, ...]]:
+        """The degrees of the basis, or None where the module is not free."""
+        return tuple(it.degree for it in self.basis) if self.is_free else None
+
+
 Value = Union[
     int, List[int], Tuple[int, ...], List[Tuple[int, ...]], List[Flat], Polynomial, Triple, ExteriorElement,
     List[GradedVector], Resolution, Freeness, Limit, Refusal,

@@ -2,25 +2,28 @@
 from __future__ import annotations
 
 from dataclasses import dataclass
+from functools import cached_property
 from fractions import Fraction
-from typing import Any, Iterable, List, Optional, Sequence, Tuple, Union
+from typing import Any, Iterable, Iterator, List, Optional, Sequence, Tuple, Union
 
 from . import foreign
 from .answers import Flat, Freeness, Resolution, Triple
-from .builds import Build, Deleted, Family, Forms, Graphic, Restricted, Row, check_build
+from .decided import Decided
+from .builds import Build, Deleted, Family, Forms, Graphic, Restricted, Row, check_build, check_index, keep
 from .errors import BadInput
 from .fields import Field, FieldLike, field_of, rational, whole_number
-from .linear_forms import Variables, numbered, parse_form, variables_of
-from .polynomials import ExteriorElement, GradedVector, Polynomial
+from .linear_forms import Variables, numbered, parse_form, variables_among, variables_of
+from .polynomials import ExteriorElement, GradedVector, Polynomial, Ring
 from .program import ask_one
 from .questions import Element, Limits, Multiplicities, Question
+from .rows import monic
 
 FormLike = Union[str, Sequence[Any], Any]
 GREATEST = Field(32003)
 
 
-@dataclass(frozen=True)
-class Arrangement:
+@dataclass(frozen=True, repr=False)
+class Arrangement(Decided):
     """A central arrangement over a prime field: how it is built, and the names of its variables.
 
     >>> print(Arrangement.forms(["x", "y", "x - y"], 31))
@@ -38,14 +41,16 @@ class Arrangement:
 
     @classmethod
     def forms(cls, forms: Iterable[FormLike], field: FieldLike = GREATEST, variables: Variables = None) -> Arrangement:
-        """The arrangement of linear forms: rows of numbers, texts, or polynomials of Sage.
+        """The arrangement of linear forms: rows of numbers, texts, or forms of Sage or sympy, or one text with commas.
 
+        >>> print(Arrangement.forms("x, y, x - y", 31))
+        3 hyperplanes in x, y over field 31: forms 2 [1 0, 0 1, 1 30]
         >>> Arrangement.forms([[1, 0], [2, 0]], 31)
         Traceback (most recent call last):
             ...
         arrange.errors.BadInput: form 2: it is a multiple of form 1 over the field with 31 elements
         """
-        return cls._of_forms(list(forms), field_of(field), variables, is_cone=False)
+        return cls._of_forms(_listed(forms), field_of(field), variables, is_cone=False)
 
     @classmethod
     def cone(cls, forms: Iterable[FormLike], field: FieldLike = GREATEST, variables: Variables = None) -> Arrangement:
@@ -56,12 +61,15 @@ class Arrangement:
         >>> print(Arrangement.cone(["x", "x - 1"], 31))
         3 hyperplanes in x, h over field 31: cone 1 [1 0, 1 30]
         """
-        return cls._of_forms(list(forms), field_of(field), variables, is_cone=True)
+        return cls._of_forms(_listed(forms), field_of(field), variables, is_cone=True)
 
     @classmethod
     def _of_forms(cls, forms: List[FormLike], field: Field, variables: Variables, is_cone: bool) -> Arrangement:
         numbers = 0
-        if forms and foreign.has_variables(forms[0]):
+        if forms and foreign.is_of_sympy(forms[0]):
+            names = _names_of_sympy(forms, variables)
+            rows = [_row_of_sympy(form, names, f"form {i}", is_cone) for i, form in enumerate(forms, 1)]
+        elif forms and foreign.has_variables(forms[0]):
             names, numbers = foreign.ring_of(forms)
             rows = [_row_of_sage(form, names, f"form {i}", is_cone) for i, form in enumerate(forms, 1)]
         elif any(isinstance(form, str) for form in forms):
@@ -106,8 +114,10 @@ class Arrangement:
         return cls(field_of(field), build, numbered(build.dimension))
 
     @classmethod
-    def graphic(cls, vertices: int, edges: Iterable[Tuple[int, int]], field: FieldLike = GREATEST) -> Arrangement:
-        """The arrangement of a graph with the vertices 1, 2, .. and these edges, in their order.
+    def graphic(
+        cls, vertices: int, edges: Union[str, Iterable[Tuple[int, int]]], field: FieldLike = GREATEST
+    ) -> Arrangement:
+        """The arrangement of a graph with the vertices 1, 2, .. and these edges in their order, or as "1-2 2-3".
 
         >>> Arrangement.graphic(3, [(1, 2), (2, 3), (2, 1)])
         Traceback (most recent call last):
@@ -115,7 +125,8 @@ class Arrangement:
         arrange.errors.BadInput: edge 3: 2-1 joins what edge 1 joins
         """
         count = whole_number(vertices, "vertices")
-        pairs = tuple(_edge(it, k) for k, it in enumerate(edges, 1))
+        given = [_edge_of_text(it) for it in edges.replace(",", " ").split()] if isinstance(edges, str) else edges
+        pairs = tuple(_edge(it, k) for k, it in enumerate(given, 1))
         return cls(field_of(field), Graphic(count, pairs), numbered(count))
 
     @classmethod
@@ -129,9 +140,24 @@ class Arrangement:
         rows, variables, numbers = foreign.rows_of_sage(arrangement)
         return cls(field_of(field), Forms(len(variables), rows, False, numbers), variables)
 
-    def delete(self, index: int) -> Arrangement:
-        """The arrangement without a hyperplane."""
+    def delete(self, index: Union[int, Flat, Iterable[int]]) -> Arrangement:
+        """The arrangement without a hyperplane, or without several."""
+        if isinstance(index, (Flat, Iterable)):
+            gone = self._members(index)
+            return self.keep([it for it in range(1, len(self) + 1) if it not in gone])
         return Arrangement(self.field, Deleted(self.build, whole_number(index, "hyperplane")), self.variables)
+
+    def keep(self, indices: Union[Flat, Iterable[int]]) -> Arrangement:
+        """The arrangement of some of the hyperplanes, in their order."""
+        return Arrangement(self.field, keep(self.build, self._members(indices), len(self)), self.variables)
+
+    def _members(self, indices: Union[Flat, Iterable[int]]) -> List[int]:
+        """Numbers of hyperplanes, as a Flat has them or as they are."""
+        given = indices.hyperplanes if isinstance(indices, Flat) else indices
+        members = [whole_number(it, "hyperplane") for it in given]
+        for it in members:
+            check_index(it, len(self))
+        return members
 
     def restrict(self, index: int) -> Arrangement:
         """The arrangement that the others cut out of a hyperplane, in the coordinates that the program chooses."""
@@ -148,13 +174,54 @@ class Arrangement:
     def dimension(self) -> int:
         return self.build.dimension
 
+    @property
+    def ring(self) -> Ring:
+        """The ring in which the forms lie."""
+        return Ring(self.field.prime, self.variables)
+
     def __len__(self) -> int:
         """How many hyperplanes there are. Of a restriction the program is asked."""
         count = self.build.count()
-        return len(self.hyperplanes()) if count is None else count
+        return len(self._rows) if count is None else count
 
     def __bool__(self) -> bool:
         return True
+
+    @cached_property
+    def _rows(self) -> Tuple[Tuple[int, ...], ...]:
+        return tuple(self.hyperplanes())
+
+    def __getitem__(self, index: int) -> Polynomial:
+        """The form of a hyperplane, which are counted from 1.
+
+        >>> print(Arrangement.type_a(2, 31)[3])
+        x2 - x3
+        """
+        number = whole_number(index, "hyperplane")
+        check_index(number, len(self))
+        return self.ring.form(self._rows[number - 1])
+
+    def __iter__(self) -> Iterator[Polynomial]:
+        """The forms of the hyperplanes.
+
+        >>> print(*Arrangement.boolean(3, 31), sep=", ")
+        x1, x2, x3
+        """
+        return map(self.ring.form, self._rows)
+
+    def __contains__(self, form: FormLike) -> bool:
+        """Whether the hyperplane of a form is one of the arrangement's.
+
+        >>> "y - x" in Arrangement.forms(["x", "y", "x - y"], 31)
+        True
+        """
+        if isinstance(form, Polynomial):
+            row = tuple(form.derivative(k).coefficient(*[0] * self.dimension) for k in range(self.dimension))
+            return self.ring.form(row) == form and monic(row, self.field.prime) in self.hyperplane_set()
+        return Arrangement.forms([form], self.field, self.variables).issubset(self)
+
+    def __repr__(self) -> str:
+        return f"<Arrangement: {self}>"
 
     def __str__(self) -> str:
         count = self.build.count()
@@ -184,13 +251,15 @@ class Arrangement:
         """The rank: the codimension of what all hyperplanes have in common."""
         return ask_one(Question.rank(self), int)
 
-    def flats(self) -> List[Flat]:
-        """Every flat once, by rank, then by size, then lexicographically.
+    def flats(self, rank: Optional[int] = None) -> List[Flat]:
+        """Every flat once, by rank, then by size, then lexicographically; or those of a rank alone.
 
         >>> [str(flat) for flat in Arrangement.boolean(2).flats()]
         ['0: {}', '1: {1}', '1: {2}', '2: {1 2}']
+        >>> len(Arrangement.type_a(3).flats(rank=2))
+        7
         """
-        return ask_one(Question.flats(self), list)
+        return [it for it in ask_one(Question.flats(self), list) if rank in (None, it.rank)]
 
     def poincare(self) -> Polynomial:
         """The Poincaré polynomial.
@@ -285,6 +354,21 @@ def _shown(build: Build, field: Field) -> str:
 # ---- rows
 
 
+def _listed(forms: Iterable[FormLike]) -> List[FormLike]:
+    """The forms one by one: a text is split at its commas, and a matrix into rows."""
+    if isinstance(forms, str):
+        return list(forms.split(",")) if forms.strip() else []
+    return list(foreign.rows_in(forms))
+
+
+def _names_of_sympy(forms: Sequence[Any], variables: Variables) -> Tuple[str, ...]:
+    """The names of the variables that were given, or else those that the expressions of sympy have."""
+    for i, form in enumerate(forms, 1):
+        if not foreign.is_of_sympy(form):
+            raise BadInput(f"form {i}", f"{form!r} is no expression of sympy, as other forms are")
+    return variables_among(foreign.names_in(forms)) if variables is None else variables_of(variables, [])
+
+
 def _texts(forms: Sequence[FormLike]) -> List[str]:
     texts = []
     for i, form in enumerate(forms, 1):
@@ -307,6 +391,11 @@ def _row_of_numbers(row: Tuple[Any, ...], place: str) -> Row:
 
 def _row_of_text(text: str, names: Tuple[str, ...], place: str, is_cone: bool) -> Row:
     row, constant = parse_form(text, names, place)
+    return _with_constant(row, constant, place, is_cone)
+
+
+def _row_of_sympy(form: Any, names: Tuple[str, ...], place: str, is_cone: bool) -> Row:
+    row, constant = foreign.coefficients_of_sympy(form, names, place)
     return _with_constant(row, constant, place, is_cone)
 
 
@@ -337,6 +426,10 @@ def _homogenizing(names: Tuple[str, ...]) -> str:
     if names == numbered(len(names)):
         return f"x{len(names) + 1}"
     return next(name for name in ("h", *(f"h{k}" for k in range(len(names)))) if name not in names)
+
+
+def _edge_of_text(text: str) -> Tuple[Any, ...]:
+    return tuple(int(it) if it.isdigit() else it for it in text.split("-"))
 
 
 def _edge(edge: Optional[Sequence[Any]], number: int) -> Tuple[int, int]:

@@ -1,9 +1,9 @@
 """How an arrangement is built: what stands behind `let A =` in a script, and what is known without the program."""
 from __future__ import annotations
 
-from dataclasses import dataclass
+from dataclasses import dataclass, replace
 from fractions import Fraction
-from typing import Callable, Dict, FrozenSet, List, Optional, Tuple, Union
+from typing import Callable, Dict, FrozenSet, List, Optional, Sequence, Tuple, Union
 
 from .errors import BadInput
 from .fields import Field
@@ -151,6 +151,24 @@ class Restricted:
 
 
 Build = Union[Forms, Family, Graphic, Deleted, Restricted]
+
+
+def keep(build: Build, members: Sequence[int], count: int) -> Build:
+    """The arrangement of some of the hyperplanes, in their order; of so many there are.
+
+    >>> keep(Graphic(3, ((1, 2), (2, 3), (1, 3))), [1, 3], 3)
+    Graphic(dimension=3, edges=((1, 2), (1, 3)))
+    """
+    for index in members:
+        check_index(index, count)
+    kept = sorted(set(members))
+    if isinstance(build, Forms) and not build.is_cone:
+        return replace(build, rows=tuple(build.rows[it - 1] for it in kept))
+    if isinstance(build, Graphic):
+        return replace(build, edges=tuple(build.edges[it - 1] for it in kept))
+    for index in sorted(set(range(1, count + 1)) - set(kept), reverse=True):
+        build = Deleted(build, index)
+    return build
 
 
 def check_index(index: int, count: Optional[int]) -> None:

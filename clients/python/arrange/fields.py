@@ -44,11 +44,21 @@ class Field:
         return value.numerator * pow(value.denominator, -1, self.prime) % self.prime
 
 
-FieldLike = Union[Field, int]
+FieldLike = Union[Field, int, Any]  # or a field of Sage or sympy
 
 
 def field_of(field: FieldLike) -> Field:
-    return field if isinstance(field, Field) else Field(field)
+    """A field given as itself, as its number of elements, or as a field of Sage or sympy, such as GF(31)."""
+    if isinstance(field, Field):
+        return field
+    given: Any = field
+    if not hasattr(given, "characteristic"):
+        return Field(given)
+    prime = int(given.characteristic())
+    order = getattr(field, "order", None)
+    if callable(order) and order() != prime:
+        raise BadInput("field", f"{field} has not as many elements as its characteristic {prime}")
+    return Field(prime)
 
 
 def whole_number(number: Any, place: str) -> int:

@@ -10,6 +10,31 @@ from .fields import characteristic, rational
 from .linear_forms import parse_form
 
 
+def rows_in(forms: Any) -> Any:
+    """The rows of a matrix of sympy or an array of numpy, over which one does not go row by row; anything else itself."""
+    return forms.tolist() if hasattr(forms, "tolist") and hasattr(forms, "shape") else forms
+
+
+def is_of_sympy(form: Any) -> bool:
+    """Whether it is an expression of sympy."""
+    return hasattr(form, "free_symbols") and hasattr(form, "as_coefficients_dict")
+
+
+def names_in(forms: Sequence[Any]) -> List[str]:
+    """The names of the variables in expressions of sympy."""
+    return [str(it) for form in forms for it in form.free_symbols]
+
+
+def coefficients_of_sympy(form: Any, variables: Sequence[str], place: str) -> Tuple[List[Fraction], Fraction]:
+    """The coefficients and the constant of an expression of sympy that is linear."""
+    found = {str(it): value for it, value in form.expand().as_coefficients_dict().items()}
+    constant = rational(found.pop("1", 0), f"{place}, constant")
+    for name in found:
+        if name not in variables:
+            raise BadInput(place, f"its term in {name} is none in one of the variables {', '.join(variables)}")
+    return [rational(found.get(name, 0), f"{place}, coefficient {j}") for j, name in enumerate(variables, 1)], constant
+
+
 def has_variables(form: Any) -> bool:
     """Whether it is a polynomial of Sage, or one of its hyperplanes."""
     return hasattr(form, "parent") and (hasattr(form, "monomials") or _is_hyperplane(form))

@@ -92,7 +92,7 @@ def variables_of(variables: Variables, texts: Iterable[str]) -> Tuple[str, ...]:
     if variables is None:
         return _variables_in(texts)
     if isinstance(variables, (list, tuple)):
-        return named(variables)
+        return named(list(map(str, variables)))
     return numbered(whole_number(variables, "variables"))
 
 
@@ -106,7 +106,12 @@ def named(names: Sequence[str]) -> Tuple[str, ...]:
 
 
 def _variables_in(texts: Iterable[str]) -> Tuple[str, ...]:
-    names = sorted({name for k, text in enumerate(texts, 1) for _, _, name in terms_of(text, f"form {k}") if name})
+    return variables_among(name for k, text in enumerate(texts, 1) for _, _, name in terms_of(text, f"form {k}") if name)
+
+
+def variables_among(given: Iterable[str]) -> Tuple[str, ...]:
+    """The names of all variables where these are some: numbered ones up to the greatest number, others as they are."""
+    names = sorted(set(given))
     parts = [re.fullmatch(r"([A-Za-z]+_?)([1-9][0-9]*)", name) for name in names]
     numbers = [int(part[2]) for part in parts if part]
     beginnings = {part[1] for part in parts if part}

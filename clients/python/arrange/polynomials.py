@@ -3,7 +3,10 @@ from __future__ import annotations
 
 import re
 from dataclasses import dataclass
-from typing import List, Mapping, Optional, Sequence, Tuple
+from fractions import Fraction
+from typing import Dict, Iterable, List, Mapping, Optional, Sequence, Tuple, Union
+
+from .errors import BadInput
 
 Exponents = Tuple[int, ...]
 
@@ -107,13 +110,45 @@ class Ring(Text):
         """The coefficient as it is written: of least absolute value modulo the prime."""
         return coefficient if self.prime is None or 2 * coefficient < self.prime else coefficient - self.prime
 
+    # ---- its elements
+
+    def polynomial(self, terms: Mapping[Exponents, int]) -> Polynomial:
+        """The polynomial with these terms, whose coefficients are any integers."""
+        taken = ((it, value if self.prime is None else value % self.prime) for it, value in terms.items())
+        return Polynomial(self, {it: value for it, value in taken if value})
+
+    def number(self, value: int) -> Polynomial:
+        return self.polynomial({(0,) * len(self.variables): value})
+
+    def form(self, coefficients: Sequence[int]) -> Polynomial:
+        """The linear form with these coefficients."""
+        units = (tuple(int(j == k) for j in range(len(self.variables))) for k in range(len(self.variables)))
+        return self.polynomial(dict(zip(units, coefficients)))
+
+    def generators(self) -> Tuple[Polynomial, ...]:
+        """The variables.
+
+        >>> x, y = Ring(31, ("x", "y")).generators()
+        >>> print((x + y) ** 2 - x * y, "|", (x ** 2 - y ** 2) // (x - y))
+        x^2 + x*y + y^2 | x + y
+        """
+        size = len(self.variables)
+        return tuple(self.form([int(j == k) for j in range(size)]) for k in range(size))
+
+    def product(self, factors: Iterable[Polynomial]) -> Polynomial:
+        result = self.number(1)
+        for it in factors:
+            result = result * it
+        return result
+
 
 @dataclass(frozen=True, repr=False)
 class Polynomial(Text):
     """A polynomial as its `ring` and `terms`, from exponents to coefficients, without zeros.
 
     Modulo a prime the coefficients are residues. Where it is written they are of least absolute value, and the terms
-    stand from the greatest in the graded reverse lexicographic order.
+    stand from the greatest in the graded reverse lexicographic order. It has +, -, * and **, and // and % by a
+    polynomial whose greatest term has a coefficient with an inverse, such as a form.
 
     >>> square = Polynomial(Ring(31, ("x1", "x2")), {(1, 1): 1, (0, 2): 30})
     >>> print(square)
@@ -145,6 +180,113 @@ class Polynomial(Text):
             total += coefficient
         return total if self.ring.prime is None else total % self.ring.prime
 
+    # ---- arithmetic
+
+    def _other(self, other: Operand) -> Optional[Polynomial]:
+        """The other operand as one of the ring, or None where it is of another type."""
+        if isinstance(other, int):
+            return self.ring.number(other)
+        if isinstance(other, Polynomial):
+            if other.ring != self.ring:
+                raise BadInput("polynomial", f"{other} lies in {other.ring}, and {self} in {self.ring}")
+            return other
+        return None
+
+    def __neg__(self) -> Polynomial:
+        return self.ring.polynomial({it: -value for it, value in self.terms.items()})
+
+    def __add__(self, other: Operand) -> Polynomial:
+        added = self._other(other)
+        if added is None:
+            return NotImplemented
+        terms = dict(self.terms)
+        for exponents, value in added.terms.items():
+            terms[exponents] = terms.get(exponents, 0) + value
+        return self.ring.polynomial(terms)
+
+    __radd__ = __add__
+
+    def __sub__(self, other: Operand) -> Polynomial:
+        subtracted = self._other(other)
+        if subtracted is None:
+            return NotImplemented
+        return self + -subtracted
+
+    def __rsub__(self, other: int) -> Polynomial:
+        return -self + other
+
+    def __mul__(self, other: Operand) -> Polynomial:
+        factor = self._other(other)
+        if factor is None:
+            return NotImplemented
+        terms: Dict[Exponents, int] = {}
+        for exponents, value in self.terms.items():
+            for more, times in factor.terms.items():
+                both = tuple(a + b for a, b in zip(exponents, more))
+                terms[both] = terms.get(both, 0) + value * times
+        return self.ring.polynomial(terms)
+
+    __rmul__ = __mul__
+
+    def __pow__(self, exponent: int) -> Polynomial:
+        if exponent < 0:
+            raise BadInput("exponent", f"{exponent} is negative")
+        return self.ring.product([self] * exponent)
+
+    def __divmod__(self, divisor: Operand) -> Tuple[Polynomial, Polynomial]:
+        """The quotient, and the remainder: no term of it is divisible by the greatest term of the divisor."""
+        by = self._other(divisor)
+        if by is None:
+            return NotImplemented
+        lead, inverse = by._lead()
+        rest, quotient, remainder = self, self.ring.number(0), self.ring.number(0)
+        while rest:
+            greatest = rest.in_order()[0]
+            term = self.ring.polynomial({greatest: rest.terms[greatest]})
+            more = tuple(a - b for a, b in zip(greatest, lead))
+            if min(more) < 0:
+                remainder, rest = remainder + term, rest - term
+            else:
+                part = self.ring.polynomial({more: rest.terms[greatest] * inverse})
+                quotient, rest = quotient + part, rest - part * by
+        return quotient, remainder
+
+    def _lead(self) -> Tuple[Exponents, int]:
+        """The exponents of the greatest term, and the inverse of its coefficient."""
+        if not self:
+            raise ZeroDivisionError("division by the polynomial 0")
+        lead = self.in_order()[0]
+        value = self.terms[lead]
+        if self.ring.prime is None and abs(value) != 1:
+            raise BadInput("divisor", f"the coefficient {value} of its greatest term has no inverse in the integers")
+        return lead, value if self.ring.prime is None else pow(value, -1, self.ring.prime)
+
+    def __floordiv__(self, divisor: Operand) -> Polynomial:
+        return divmod(self, divisor)[0]
+
+    def __mod__(self, divisor: Operand) -> Polynomial:
+        return divmod(self, divisor)[1]
+
+    def derivative(self, variable: int) -> Polynomial:
+        """The derivative by a variable, which is counted from 0.
+
+        >>> x, y = Ring(31, ("x", "y")).generators()
+        >>> print((x ** 2 * y + y).derivative(0))
+        2*x*y
+        """
+        terms: Dict[Exponents, int] = {}
+        for exponents, value in self.terms.items():
+            if exponents[variable]:
+                lower = tuple(it - (k == variable) for k, it in enumerate(exponents))
+                terms[lower] = value * exponents[variable]
+        return self.ring.polynomial(terms)
+
+    # ---- what it is made of
+
+    def is_homogeneous(self, degree: int) -> bool:
+        """Whether each term has this degree, as is so of the polynomial 0."""
+        return all(sum(it) == degree for it in self.terms)
+
     def degree(self) -> int:
         """The greatest degree of a term, and 0 of the polynomial 0."""
         return max((sum(it) for it in self.terms), default=0)
@@ -168,6 +310,9 @@ class Polynomial(Text):
         return STYLES[system].sum(terms)
 
 
+Operand = Union[int, Polynomial]
+
+
 def polynomial_in_t(coefficients: Sequence[int]) -> Polynomial:
     """The polynomial over the integers with these coefficients, from degree 0 on.
 
@@ -180,12 +325,25 @@ def polynomial_in_t(coefficients: Sequence[int]) -> Polynomial:
 # ---- vectors
 
 
-@dataclass(frozen=True)
+@dataclass(frozen=True, repr=False)
 class GradedVector(Text):
     """A vector of polynomials with its degree."""
 
     degree: int
     entries: Tuple[Polynomial, ...]
+
+    def __repr__(self) -> str:
+        return f"GradedVector('{self.degree}: {self}')"
+
+    def __call__(self, polynomial: Polynomial) -> Polynomial:
+        """What it makes of a polynomial as a derivation: the sum of its entries times the derivatives.
+
+        >>> x, y = Ring(31, ("x", "y")).generators()
+        >>> print(GradedVector(1, (x, y))(x ** 2 + x * y))
+        2*x^2 + 2*x*y
+        """
+        parts = (it * polynomial.derivative(k) for k, it in enumerate(self.entries))
+        return sum(parts, polynomial.ring.number(0))
 
     def text(self, system: str) -> str:
         texts = [it.text(system) for it in self.entries]

@@ -3,7 +3,7 @@ from __future__ import annotations
 
 import re
 from dataclasses import dataclass
-from typing import TYPE_CHECKING, Any, Dict, List, Mapping, Optional, Sequence, Tuple, Union
+from typing import TYPE_CHECKING, Any, Dict, Iterable, List, Mapping, Optional, Sequence, Tuple, Union
 
 from .builds import Build, check_index
 from .errors import BadInput
@@ -19,7 +19,7 @@ WORDS = (
 )
 MOST_BYTES = 1_048_576
 MOST_MULTIPLICITY = 20
-Multiplicities = Optional[Sequence[int]]
+Multiplicities = Union[None, int, Sequence[int]]
 Element = Union[str, Mapping[Tuple[int, ...], Any]]
 
 
@@ -109,6 +109,8 @@ class Question:
     @classmethod
     def aomoto(cls, arrangement: Arrangement, weights: Sequence[Any]) -> Question:
         field = arrangement.field
+        if isinstance(weights, str):
+            raise BadInput("weights", f"{weights!r} is a text, and a list of numbers is wanted")
         residues = [field.residue(it, f"weight {i}") for i, it in enumerate(weights, 1)]
         _check_count(len(residues), "weights", arrangement)
         return cls("aomoto", arrangement, _list_text(residues))
@@ -146,6 +148,10 @@ def _check_count(count: int, what: str, arrangement: Arrangement) -> None:
 def _multiplicities(arrangement: Arrangement, multiplicities: Multiplicities) -> str:
     if multiplicities is None:
         return ""
+    if isinstance(multiplicities, str):
+        raise BadInput("multiplicities", f"{multiplicities!r} is a text, and a list of numbers or one for all is wanted")
+    if not isinstance(multiplicities, Iterable):
+        multiplicities = [multiplicities] * len(arrangement)
     numbers = [whole_number(it, f"multiplicity {i}") for i, it in enumerate(multiplicities, 1)]
     for i, number in enumerate(numbers, 1):
         if not 0 <= number <= MOST_MULTIPLICITY:
