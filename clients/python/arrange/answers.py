@@ -6,7 +6,8 @@ from operator import mul
 from typing import Dict, List, Optional, Tuple, Union
 
 from .errors import Limit, Refusal
-from .polynomials import ExteriorElement, GradedVector, Polynomial
+from .polynomials import ExteriorElement, GradedVector, Polynomial, matrix_text
+from .shown import picture, table
 
 
 @dataclass(frozen=True)
@@ -19,6 +20,9 @@ class Flat:
     def __str__(self) -> str:
         return f"{self.rank}: {{{' '.join(map(str, self.hyperplanes))}}}"
 
+    def _repr_latex_(self) -> str:
+        return rf"$\{{{', '.join(map(str, self.hyperplanes))}\}}$"
+
 
 @dataclass(frozen=True)
 class Triple:
@@ -27,6 +31,9 @@ class Triple:
     whole: Polynomial
     deleted: Polynomial
     restricted: Polynomial
+
+    def _repr_latex_(self) -> str:
+        return rf"${self.whole.latex()} = ({self.deleted.latex()}) + t\,({self.restricted.latex()})$"
 
 
 @dataclass(frozen=True)
@@ -37,7 +44,7 @@ class ResolutionMap:
     rows: Tuple[GradedVector, ...]
 
 
-@dataclass(frozen=True)
+@dataclass(frozen=True, repr=False)
 class Resolution:
     """A minimal free resolution of the module of logarithmic derivations.
 
@@ -46,6 +53,16 @@ class Resolution:
     """
 
     maps: Tuple[ResolutionMap, ...]
+
+    def __repr__(self) -> str:
+        return f"<Resolution of projective dimension {self.projective_dimension()} with Betti numbers {self.betti()}>"
+
+    def __str__(self) -> str:
+        return self.betti_table()
+
+    def __len__(self) -> int:
+        """How many maps there are."""
+        return len(self.maps)
 
     def betti(self) -> Dict[Tuple[int, int], int]:
         """The Betti numbers that are not zero, by the number of the map, from 0, and the degree."""
@@ -61,17 +78,28 @@ class Resolution:
 
     def betti_table(self) -> str:
         """The Betti numbers as Macaulay2 prints them: column k is map k, and row d has the degrees d + k."""
+        rows = self._table()
+        widths = [max(map(len, column)) for column in zip(*rows)]
+        return "\n".join(" ".join(it.rjust(width) for it, width in zip(row, widths)).rstrip() for row in rows)
+
+    def _table(self) -> List[List[str]]:
         numbers = self.betti()
         low = min(degree - k for k, degree in numbers)
         columns = range(len(self.maps))
         rows = [["", *map(str, columns)], ["total:", *(str(len(it.rows)) for it in self.maps)]]
         for d in range(low, self.regularity() + 1):
             rows.append([f"{d}:", *(str(numbers.get((k, d + k), ".")) for k in columns)])
-        widths = [max(map(len, column)) for column in zip(*rows)]
-        return "\n".join(" ".join(it.rjust(width) for it, width in zip(row, widths)).rstrip() for row in rows)
+        return rows
+
+    def _repr_html_(self) -> str:
+        head, *rows = self._table()
+        return table(head, rows)
+
+    def _repr_svg_(self) -> Optional[str]:
+        return picture("betti_picture", self, "the module")
 
 
-@dataclass(frozen=True)
+@dataclass(frozen=True, repr=False)
 class Freeness:
     """Whether the module of logarithmic derivations is free, and with how many generators.
 
@@ -87,6 +115,22 @@ class Freeness:
 
     def __bool__(self) -> bool:
         return self.is_free
+
+    def __str__(self) -> str:
+        if self.exponents is None:
+            return f"not free, with {self.generators} generators"
+        return f"free with exponents {', '.join(map(str, self.exponents))}"
+
+    def __repr__(self) -> str:
+        return f"<{self}>"
+
+    def latex(self) -> str:
+        """In words, and the basis as the rows of a matrix where there is one."""
+        matrix = rf":\quad {matrix_text(self.basis, 'latex')}" if self.basis else ""
+        return rf"\text{{{self}}}{matrix}"
+
+    def _repr_latex_(self) -> str:
+        return f"${self.latex()}$"
 
     @property
     def exponents(self) -> Optional[Tuple[int, ...]]:

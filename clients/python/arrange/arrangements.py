@@ -8,15 +8,16 @@ from typing import Any, Iterable, Iterator, List, Optional, Sequence, Tuple, Uni
 
 from . import foreign
 from .answers import Flat, Freeness, Resolution, Triple
-from .decided import Decided
 from .builds import Build, Deleted, Family, Forms, Graphic, Restricted, Row, check_build, check_index, keep
-from .errors import BadInput
+from .decided import Decided
+from .errors import ArrangeError, BadInput
 from .fields import Field, FieldLike, field_of, rational, whole_number
 from .linear_forms import Variables, numbered, parse_form, variables_among, variables_of
 from .polynomials import ExteriorElement, GradedVector, Polynomial, Ring
 from .program import ask_one
 from .questions import Element, Limits, Multiplicities, Question
 from .rows import monic
+from .shown import picture
 
 FormLike = Union[str, Sequence[Any], Any]
 GREATEST = Field(32003)
@@ -228,6 +229,29 @@ class Arrangement(Decided):
         many = "a restriction" if count is None else f"{count} hyperplane{'s' * (count != 1)}"
         text = _shown(self.build, self.field)
         return f"{many} in {', '.join(self.variables)} over {self.field}: {text}"
+
+    def latex(self) -> str:
+        """The product of its forms, and the ring in which they lie.
+
+        >>> print(Arrangement.forms("x, y, x - y", 31).latex())
+        x \\, y \\, (x - y) \\in \\mathbb{F}_{31}[x, y]
+        """
+        factors = [f"({it.latex()})" if len(it.terms) > 1 else it.latex() for it in self]
+        return r" \, ".join(factors or ["1"]) + r" \in " + self.ring.latex()
+
+    def _repr_latex_(self) -> Optional[str]:
+        try:
+            return f"${self.latex()}$"
+        except ArrangeError:
+            return None
+
+    def _repr_svg_(self) -> Optional[str]:
+        """The lines in the projective plane, of an arrangement of rank 3."""
+        try:
+            flats = self.flats() if self.rank() == 3 else []
+        except ArrangeError:
+            return None
+        return picture("lines_picture", self.hyperplanes(), flats, self.field.prime, "the arrangement") if flats else None
 
     # ---- what may be asked of them
 

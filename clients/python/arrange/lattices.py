@@ -5,12 +5,13 @@ from collections import Counter
 from functools import cached_property
 from importlib import import_module
 from math import comb
-from typing import Any, Counter as CounterOf, Dict, Iterable, Iterator, List, Optional, Sequence, Tuple, Union
+from typing import Any, Counter as CounterOf, Dict, Hashable, Iterable, Iterator, List, Optional, Sequence, Tuple, Union
 
 from .answers import Flat
 from .errors import BadInput
 from .fields import whole_number
 from .polynomials import Polynomial, Ring, polynomial_in_t
+from .shown import MOST_FLATS, picture, table
 
 FlatLike = Union[Flat, Iterable[int]]
 Sets = Tuple[int, ...]  # sets of hyperplanes as binary numbers: hyperplane i is the digit of 2 ** (i - 1)
@@ -345,6 +346,32 @@ class Lattice:
         for it in digits(base):
             yield self._sets[-1] & ~self._sets[self._closure(base & ~(1 << it))]
 
+    # ---- flats that look alike
+
+    def kinds(self) -> List[Tuple[Flat, ...]]:
+        """The flats in parts, by rank: those of a part are on as many hyperplanes, and have as many covers in each part.
+
+        It is the coarsest such partition. Flats that a symmetry exchanges are of one kind.
+
+        >>> from arrange import Arrangement
+        >>> [len(it) for it in Arrangement.type_a(3).lattice().kinds()]
+        [1, 6, 3, 4, 1]
+        """
+        colours = [(flat.rank, len(flat.hyperplanes)) for flat in self.flats]
+        kinds = _numbered(colours)
+        while True:
+            refined = _numbered([
+                (kinds[k], tuple(sorted(kinds[it] for it in self._upper[k])), tuple(sorted(kinds[it] for it in self._lower[k])))
+                for k in range(len(self))
+            ])
+            if max(refined) == max(kinds):
+                break
+            kinds = refined
+        parts: Dict[int, List[Flat]] = {}
+        for kind, flat in zip(kinds, self.flats):
+            parts.setdefault(kind, []).append(flat)
+        return sorted((tuple(it) for it in parts.values()), key=lambda it: (it[0].rank, len(it[0].hyperplanes)))
+
     # ---- for others
 
     def to_networkx(self) -> Any:
@@ -356,10 +383,18 @@ class Lattice:
         graph.add_edges_from(self.covers())
         return graph
 
-    def _repr_svg_(self) -> str:
-        from arrange_draw import lattice_picture
+    def _repr_svg_(self) -> Optional[str]:
+        return picture("lattice_picture", self.flats, "the arrangement") if len(self) <= MOST_FLATS else None
 
-        return lattice_picture(self.flats, "the arrangement").text()
+    def _repr_html_(self) -> str:
+        ranks = range(self.rank + 1)
+        return table(["rank", *ranks], [["flats", *self.whitney(2)], ["Möbius values", *self.whitney(1)]])
+
+
+def _numbered(colours: Sequence[Hashable]) -> List[int]:
+    """Colours as numbers, in the order in which they come first."""
+    seen: Dict[Hashable, int] = {}
+    return [seen.setdefault(it, len(seen)) for it in colours]
 
 
 def set_of(members: Iterable[int]) -> int:

@@ -1,6 +1,7 @@
 """One arrangement at several primes, side by side."""
 from __future__ import annotations
 
+import html
 import warnings
 from dataclasses import dataclass
 from typing import Callable, Dict, FrozenSet, Iterable, Iterator, List, Mapping, Optional, Sequence, Tuple, Union
@@ -11,6 +12,7 @@ from .errors import BadInput, Refusal
 from .fields import Field
 from .program import Program, ask
 from .questions import Question
+from .shown import table
 
 Asked = Union[str, Callable[[Arrangement], Question]]
 Faults = Dict[int, Union[BadInput, Refusal]]
@@ -38,6 +40,12 @@ class Comparison:
     def is_same(self) -> bool:
         """Whether the matroid is the same at all primes that were given."""
         return not self.warnings
+
+    def _repr_html_(self) -> str:
+        words = list(dict.fromkeys(word for answers in self.answers.values() for word in answers))
+        rows = [[prime, *(answers.get(word, "") for word in words)] for prime, answers in self.answers.items()]
+        said = "".join(f"<p>{html.escape(it)}</p>" for it in self.warnings)
+        return table(["prime", *words], rows) + said
 
     def __str__(self) -> str:
         lines = []
@@ -134,7 +142,9 @@ def _groups(matroids: Mapping[int, Matroid]) -> Tuple[Tuple[int, ...], ...]:
 def _differences(matroids: Mapping[int, Matroid], faults: Faults) -> Iterator[str]:
     """In words: where there is no arrangement, how each group differs from the greatest, what is not compared."""
     for prime, fault in faults.items():
-        yield f"there is no such arrangement at {prime}: {fault}"
+        is_small = isinstance(fault, BadInput) and fault.place == "arrangement"
+        said = "the program takes no such arrangement" if is_small else "there is no such arrangement"
+        yield f"{said} at {prime}: {fault}"
     groups = _groups(matroids)
     for group in groups[1:]:
         yield _difference(group[0], matroids[group[0]], groups[0][0], matroids[groups[0][0]])

@@ -3,19 +3,22 @@ from __future__ import annotations
 
 import argparse
 import pathlib
+import re
 import sys
-from typing import List, Optional
+from typing import List, Optional, Sequence
 
-from arrange import ArrangeError, BadInput, Program
+from arrange import ArrangeError, BadInput, Flat, Lattice, Program
 
 from .asking import Answers, asked, printed
 from .betti import betti_picture
-from .lattice import lattice_picture
+from .kinds import kinds_picture
+from .lattice import Look, lattice_picture
 from .plane import differences, lines_picture
-from .real_lines import real_lines
+from .real_lines import given_lines, real_lines
+from .real_numbers import real_rows
 from .svg import Picture
 
-QUESTIONS = {"lines": ("hyperplanes", "flats"), "lattice": ("flats",), "betti": ("resolve",)}
+QUESTIONS = {"lines": ("hyperplanes", "flats"), "lattice": ("flats",), "kinds": ("flats",), "betti": ("resolve",)}
 EPILOG = """\
 examples:
   arrange-draw lines examples/gallery/braid.arr -o braid.svg
@@ -33,13 +36,18 @@ def parser() -> argparse.ArgumentParser:
         epilog=EPILOG, formatter_class=argparse.RawDescriptionHelpFormatter,
     )
     add = words.add_argument
-    add("picture", choices=list(QUESTIONS), help="lines in the projective plane, the lattice of flats, a Betti table")
+    picture = "lines in the projective plane, the lattice of flats, the kinds of flats of a wide lattice, a Betti table"
+    add("picture", choices=list(QUESTIONS), help=picture)
     add("script", help="a script, or - for standard input; its own questions are left out")
     add("name", nargs="?", help="the arrangement; may be left out where the script names one")
     add("-o", "--output", metavar="FILE", help="the SVG file; standard output where it is left out")
     add("--answers", action="store_true", help="the file holds printed answers, and the program is not asked")
     add("--field", type=int, metavar="P", help="with --answers: the number of elements of the field")
     add("--boundary", type=int, metavar="I", help="of lines: draw hyperplane I as the boundary of the disc")
+    add("--real", metavar="'A B C, ..'", help="of lines: the real forms to draw, such as '1 0 0, 1 phi phi-1, ..'")
+    add("--ranks", metavar="A..B", help="of lattice: the flats of these ranks alone")
+    add("--turned", action="store_true", help="of lattice: labels that are read from below, for wide ranks")
+    add("--chain", action="store_true", help="of lattice: mark a maximal chain of modular flats, where there is one")
     add("--multiplicities", default="", metavar="'M ..'", help="of betti: the multiplicities of the hyperplanes")
     add("--title", help="what the picture calls the arrangement, instead of its name")
     add("--program", metavar="PATH", help="the program, instead of the one that ARRANGE names")
@@ -65,13 +73,31 @@ def drawn(options: argparse.Namespace) -> Picture:
         return betti_picture(answers.resolution(), name, options.multiplicities)
     flats = answers.flats()
     if options.picture == "lattice":
-        return lattice_picture(flats, name)
+        return lattice_picture(flats, name, look_of(options, flats))
+    if options.picture == "kinds":
+        return kinds_picture(flats, name)
     if answers.prime is None:
         raise BadInput("--field", "the number of elements of the field is needed to draw lines")
     rows = answers.hyperplanes()
-    for said in differences(real_lines(rows, answers.prime, [it.hyperplanes for it in flats if it.rank == 2])):
+    real = None if options.real is None else real_rows(options.real)
+    planes = [it.hyperplanes for it in flats if it.rank == 2]
+    for said in differences(real_lines(rows, answers.prime, planes) if real is None else given_lines(real, planes)):
         print(f"arrange-draw: {said}", file=sys.stderr)
-    return lines_picture(rows, flats, answers.prime, name, options.boundary)
+    return lines_picture(rows, flats, answers.prime, name, options.boundary, real)
+
+
+def look_of(options: argparse.Namespace, flats: Sequence[Flat]) -> Look:
+    """How the lattice is to be drawn. That there is no chain to be marked is said on standard error."""
+    ranks = None
+    if options.ranks is not None:
+        ends = re.fullmatch(r"([0-9]+)\.\.([0-9]+)", options.ranks)
+        if ends is None:
+            raise BadInput("--ranks", f"{options.ranks!r} is no range such as 1..2")
+        ranks = (int(ends[1]), int(ends[2]))
+    chain = Lattice(flats).modular_chain() if options.chain else []
+    if chain is None:
+        print("arrange-draw: there is no maximal chain of modular flats: it is not supersolvable", file=sys.stderr)
+    return Look(ranks, options.turned, tuple(chain or ()))
 
 
 def main(words: Optional[List[str]] = None) -> int:

@@ -1,10 +1,11 @@
-"""The lattice of flats: its Möbius function, its covers, and its picture by rank."""
+"""The picture of a lattice of flats by rank."""
 from __future__ import annotations
 
 from bisect import bisect, insort
-from dataclasses import dataclass
-from typing import Dict, FrozenSet, Iterable, List, Optional, Sequence, Tuple
+from dataclasses import dataclass, replace
+from typing import Dict, Iterable, List, Optional, Sequence, Tuple
 
+import arrange
 from arrange import BadInput, Flat
 
 from .svg import DIGIT, INK, PALE, Picture, number, wrapped
@@ -22,7 +23,9 @@ MOST_APART = 40.0
 RISE = 92.0
 SWEEPS = 12
 MOST_LABELLED = 60  # with more flats than this in a rank they are dots without labels
+MOST_TURNED = 250  # the same of labels that are turned
 MOST_EDGES = 4000
+MARK = "#c8860d"
 
 
 @dataclass(frozen=True)
@@ -32,9 +35,10 @@ class Lattice:
     ranks: Tuple[Tuple[Flat, ...], ...]
     moebius: Dict[Tuple[int, ...], int]
     covers: Tuple[Tuple[Edge, ...], ...]  # for each rank but the last: the places of a flat and of one that covers it
+    top: Flat
 
     def hyperplanes(self) -> int:
-        return len(self.ranks[-1][0].hyperplanes)
+        return len(self.top.hyperplanes)
 
 
 def lattice_of(flats: Sequence[Flat]) -> Lattice:
@@ -44,31 +48,20 @@ def lattice_of(flats: Sequence[Flat]) -> Lattice:
     >>> lattice_of(three).moebius
     {(): 1, (1,): -1, (2,): -1, (3,): -1, (1, 2, 3): 2}
     """
-    ranks: List[Tuple[Flat, ...]] = []
-    for rank in range(max((it.rank for it in flats), default=-1) + 1):
-        ranks.append(tuple(it for it in flats if it.rank == rank))
-    if not ranks or len(ranks[0]) != 1 or len(ranks[-1]) != 1 or not all(ranks):
-        raise BadInput("flats", "these are not all flats of an arrangement")
-    return Lattice(tuple(ranks), _moebius(flats), tuple(_covers(low, high) for low, high in zip(ranks, ranks[1:])))
+    whole = arrange.Lattice(flats)
+    ranks = tuple(whole.of_rank(rank) for rank in range(whole.rank + 1))
+    places = {flat: k for rank in ranks for k, flat in enumerate(rank)}
+    covers: List[List[Edge]] = [[] for _ in ranks[1:]]
+    for low, high in whole.covers():
+        covers[low.rank].append((places[low], places[high]))
+    return Lattice(ranks, {it.hyperplanes: whole.mobius(it) for it in whole}, tuple(map(tuple, covers)), ranks[-1][0])
 
 
-def _moebius(flats: Iterable[Flat]) -> Dict[Tuple[int, ...], int]:
-    """The value of a flat is minus the sum of the values of those below it, and 1 of the whole space."""
-    values: Dict[Tuple[int, ...], int] = {}
-    sets: List[Tuple[FrozenSet[int], int]] = []
-    for flat in sorted(flats, key=lambda it: it.rank):
-        members = frozenset(flat.hyperplanes)
-        below = [value for other, value in sets if other < members]
-        value = -sum(below) if below else 1
-        values[flat.hyperplanes] = value
-        sets.append((members, value))
-    return values
-
-
-def _covers(low: Sequence[Flat], high: Sequence[Flat]) -> Tuple[Edge, ...]:
-    uppers = [frozenset(it.hyperplanes) for it in high]
-    pairs = ((i, j) for i in range(len(low)) for j in range(len(high)))
-    return tuple((i, j) for i, j in pairs if uppers[j].issuperset(low[i].hyperplanes))
+def between_ranks(lattice: Lattice, low: int, high: int) -> Lattice:
+    """The flats from one rank to another alone, with the values that they have in the whole lattice."""
+    if not 0 <= low <= high < len(lattice.ranks):
+        raise BadInput("ranks", f"{low}..{high} is not within 0..{len(lattice.ranks) - 1}")
+    return Lattice(lattice.ranks[low:high + 1], lattice.moebius, lattice.covers[low:high], lattice.top)
 
 
 # ---- the order within a rank
@@ -129,12 +122,18 @@ class Label:
 
     lines: Tuple[str, ...]
     value: str
+    turned: bool = False  # its lines are read from below
 
     def width(self) -> float:
-        texts = [*self.lines, self.value]
-        return 0.62 * SIZE * max(map(len, texts)) + 10
+        return self._across() if self.turned else self._along()
 
     def height(self) -> float:
+        return self._along() if self.turned else self._across()
+
+    def _along(self) -> float:
+        return 0.62 * SIZE * max(map(len, [*self.lines, self.value])) + 10
+
+    def _across(self) -> float:
         return LINE * (len(self.lines) + 1) + 8
 
 
@@ -150,9 +149,12 @@ def label_of(flat: Flat, lattice: Lattice, most: int) -> Label:
     return Label(tuple(lines) or ("\u2205",), value)
 
 
-def _labels(lattice: Lattice) -> List[List[Label]]:
-    """The labels of each rank, in as few lines as the width of the picture lets them have."""
+def _labels(lattice: Lattice, turned: bool) -> List[List[Label]]:
+    """The labels of each rank, in as few lines as the width of the picture lets them have; those that are turned in one."""
     rows = []
+    if turned:
+        size = lattice.hyperplanes()
+        return [[replace(label_of(it, lattice, size), turned=True) for it in rank] for rank in lattice.ranks]
     for rank in lattice.ranks:
         most = max(len(it.hyperplanes) for it in rank) or 1
         row = [label_of(it, lattice, most) for it in rank]
@@ -163,30 +165,43 @@ def _labels(lattice: Lattice) -> List[List[Label]]:
     return rows
 
 
-def lattice_picture(flats: Sequence[Flat], name: str) -> Picture:
+@dataclass(frozen=True)
+class Look:
+    """How a lattice is drawn: the ranks of its flats, whether its labels are turned, and flats that are marked."""
+
+    ranks: Optional[Tuple[int, int]] = None
+    turned: bool = False
+    marked: Tuple[Flat, ...] = ()
+
+
+def lattice_picture(flats: Sequence[Flat], name: str, look: Look = Look()) -> Picture:
     """The flats by rank from below, each with its hyperplanes and its Möbius value, and a line for each cover."""
-    lattice = lattice_of(flats)
-    labels = _labels(lattice)
-    small = max(map(len, lattice.ranks)) > MOST_LABELLED
+    whole = lattice_of(flats)
+    first, last = look.ranks or (0, len(whole.ranks) - 1)
+    lattice = between_ranks(whole, first, last)
+    labels = _labels(lattice, look.turned)
+    small = max(map(len, lattice.ranks)) > (MOST_TURNED if look.turned else MOST_LABELLED)
+    rise = max(RISE, *(it.height() + 46 for row in labels for it in row)) if look.turned and not small else RISE
     dot = max(DOT, (WIDTH - LEFT - RIGHT) / max(map(len, lattice.ranks)))
     widths = [[dot if small else it.width() + GAP for it in row] for row in labels]
     width = max(WIDTH, LEFT + RIGHT + max(sum(row) for row in widths))
-    shown = wrapped(_caption(lattice, name, small), width - 40, 12)
-    bottom = 30 + RISE * (len(labels) - 1) + max(it.height() for it in labels[-1]) / 2
-    picture = Picture(width, bottom + 62 + 17 * len(shown), f"The lattice of flats of {name}")
-    places = _places(ordered(lattice), widths, width, bottom)
-    _draw_covers(picture, lattice, places)
+    shown = wrapped(_caption(lattice, name, small, look), width - 40, 12)
+    bottom = 30 + rise * (len(labels) - 1) + max(it.height() for it in labels[-1]) / 2
+    below = 20 + (max(it.height() for it in labels[0]) / 2 if look.turned and not small else 30)
+    picture = Picture(width, bottom + below + 12 + 17 * len(shown), f"The lattice of flats of {name}")
+    places = _places(ordered(lattice), widths, width, bottom, rise)
+    _draw_covers(picture, lattice, places, look.marked)
     for rank, row in enumerate(labels):
-        picture.words((14, places[rank][0][1] + 4), f"rank {rank}", 11, fill=PALE)
-        for label, at in zip(row, places[rank]):
-            _draw_flat(picture, label, at, min(2.4, 0.4 * dot) if small else None)
+        picture.words((14, places[rank][0][1] + 4), f"rank {first + rank}", 11, fill=PALE)
+        for flat, label, at in zip(lattice.ranks[rank], row, places[rank]):
+            _draw_flat(picture, label, at, min(2.4, 0.4 * dot) if small else None, flat in look.marked)
     for k, text in enumerate(shown):
-        picture.words((20, bottom + 50 + 17 * k), text, 12, fill=INK if k == 0 else "#4a5561")
+        picture.words((20, bottom + below + 17 * k), text, 12, fill=INK if k == 0 else "#4a5561")
     return picture
 
 
 def _places(
-    orders: Sequence[Sequence[int]], widths: Sequence[Sequence[float]], width: float, bottom: float
+    orders: Sequence[Sequence[int]], widths: Sequence[Sequence[float]], width: float, bottom: float, rise: float
 ) -> List[List[Tuple[float, float]]]:
     """For each rank the places of its flats, in the order in which they were printed."""
     rows = []
@@ -197,39 +212,48 @@ def _places(
         row = [(0.0, 0.0)] * len(order)
         for flat in order:
             share = those[flat] + more
-            row[flat] = (x + share / 2, bottom - RISE * rank)
+            row[flat] = (x + share / 2, bottom - rise * rank)
             x += share
         rows.append(row)
     return rows
 
 
-def _draw_covers(picture: Picture, lattice: Lattice, places: Sequence[Sequence[Tuple[float, float]]]) -> None:
+def _draw_covers(
+    picture: Picture, lattice: Lattice, places: Sequence[Sequence[Tuple[float, float]]], marked: Sequence[Flat]
+) -> None:
     many = sum(map(len, lattice.covers))
     stroke = {"stroke": "#9aa7b4", "stroke_width": 1 if many < 200 else 0.5}
     if many >= 1000:
         stroke["stroke_opacity"] = 0.4
     for rank, edges in enumerate(lattice.covers):
         for i, j in edges:
-            picture.line(places[rank][i], places[rank + 1][j], **stroke)
+            ends = lattice.ranks[rank][i] in marked and lattice.ranks[rank + 1][j] in marked
+            picture.line(places[rank][i], places[rank + 1][j], **({"stroke": MARK, "stroke_width": 3} if ends else stroke))
 
 
-def _draw_flat(picture: Picture, label: Label, at: Tuple[float, float], dot: Optional[float]) -> None:
+def _draw_flat(picture: Picture, label: Label, at: Tuple[float, float], dot: Optional[float], is_marked: bool) -> None:
     colour = "#1f5fa8" if label.value[0] != "\u2212" else "#b3541e"
     if dot is not None:
-        picture.circle(at, dot, fill=colour)
+        picture.circle(at, 2 * dot if is_marked else dot, fill=MARK if is_marked else colour)
         return
     width, height = label.width(), label.height()
     left, top = at[0] - width / 2, at[1] - height / 2
-    picture.add("rect", x=left, y=top, width=width, height=height, rx=5, fill="white", stroke="#b7c0ca", stroke_width=1)
+    edge, strong = (MARK, 2.5) if is_marked else ("#b7c0ca", 1.0)
+    picture.add("rect", x=left, y=top, width=width, height=height, rx=5, fill="white", stroke=edge, stroke_width=strong)
+    turn = {"transform": f"rotate(-90 {number(at[0])} {number(at[1])})"} if label.turned else {}
+    first = at[1] - LINE * (len(label.lines) + 1) / 2
     for k, text in enumerate(label.lines):
-        picture.middle((at[0], top + 4 + LINE * (k + 0.5)), text, SIZE)
-    below = top + 4 + LINE * (len(label.lines) + 0.5)
-    picture.middle((at[0], below), label.value, SIZE, fill=colour, font_weight="bold")
+        picture.middle((at[0], first + LINE * (k + 0.5)), text, SIZE, **turn)
+    below = first + LINE * (len(label.lines) + 0.5)
+    picture.middle((at[0], below), label.value, SIZE, fill=colour, font_weight="bold", **turn)
 
 
-def _caption(lattice: Lattice, name: str, small: bool) -> Iterable[str]:
+def _caption(lattice: Lattice, name: str, small: bool, look: Look) -> Iterable[str]:
     total = sum(map(len, lattice.ranks))
-    yield f"{name}: the {total} flats by rank, {', '.join(str(len(rank)) for rank in lattice.ranks)}."
+    ranks = "" if look.ranks is None else f" {look.ranks[0]} to {look.ranks[1]}"
+    yield f"{name}: the {total} flats by rank{ranks}, {', '.join(str(len(rank)) for rank in lattice.ranks)}."
+    if look.marked:
+        yield "The flats of a maximal chain of modular flats are marked, so it is supersolvable."
     if small:
         yield "Each dot is a flat: blue where its Möbius value is positive, red where it is negative."
     else:

@@ -8,7 +8,7 @@ from typing import Dict, Iterable, List, Optional, Sequence, Tuple
 from arrange import BadInput, Flat
 
 from .position import ON_BOUNDARY, Plane, Vector, meeting_points, on_disc, placed
-from .real_lines import Lines, RealLines, RealPoint, real_lines
+from .real_lines import Lines, Real, RealLines, RealPoint, given_lines, real_lines
 from .svg import DIGIT, INK, PALE, WARNING, Picture, wrapped
 
 WIDTH = 600.0
@@ -33,13 +33,17 @@ class Curve:
 
 
 def lines_picture(
-    rows: Sequence[Sequence[int]], flats: Sequence[Flat], prime: int, name: str, boundary: Optional[int] = None
+    rows: Sequence[Sequence[int]], flats: Sequence[Flat], prime: int, name: str, boundary: Optional[int] = None,
+    real: Optional[Sequence[Real]] = None,
 ) -> Picture:
-    """The picture of the arrangement of these forms over the field with `prime` elements, with these flats."""
+    """The picture of the arrangement of these forms over the field with `prime` elements, with these flats.
+
+    It is drawn by the real forms where some are given, and else by integers with the same residues.
+    """
     if boundary is not None and not 1 <= boundary <= len(rows):
         raise BadInput("boundary", f"there is no hyperplane {boundary}")
     planes = [flat.hyperplanes for flat in flats if flat.rank == 2]
-    lines = real_lines(rows, prime, planes)
+    lines = real_lines(rows, prime, planes) if real is None else given_lines(real, planes)
     normals = placed(lines, planes, boundary)
     caption = _caption(lines, planes, prime, name, len(rows[0]))
     shown = wrapped(caption, WIDTH - 40, 12)

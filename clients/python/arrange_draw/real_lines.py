@@ -13,9 +13,12 @@ from typing import Dict, List, Sequence, Set, Tuple
 from arrange import BadInput
 
 Form = Tuple[int, ...]
+Real = Tuple[float, ...]
 Lines = Tuple[int, ...]
 
 PRINTED = "drawn by the residues of least absolute value"
+GIVEN = "drawn by the real forms that were given"
+NEAR = 1e-7  # points of the sphere that are as near to each other are one
 SCALED = "each form drawn by the multiple whose residues are of least absolute value"
 
 
@@ -29,9 +32,9 @@ class RealPoint:
 
 @dataclass(frozen=True)
 class RealLines:
-    """Real lines by integer forms in three variables, their points, and the flats of rank 2 that come apart in them."""
+    """Real lines by forms in three variables, their points, and the flats of rank 2 that come apart in them."""
 
-    forms: Tuple[Form, ...]
+    forms: Tuple[Real, ...]
     points: Tuple[RealPoint, ...]
     apart: Tuple[Lines, ...]
     reading: str
@@ -57,8 +60,21 @@ def real_lines(rows: Sequence[Sequence[int]], prime: int, planes: Sequence[Lines
     return min(drawn, key=lambda it: len(it.apart))
 
 
+def given_lines(forms: Sequence[Real], planes: Sequence[Lines]) -> RealLines:
+    """The lines of real forms that are given, such as those over a golden ratio, held against the flats of rank 2."""
+    count = max((it for plane in planes for it in plane), default=len(forms))
+    if len(forms) != count or any(len(it) != 3 or not any(it) for it in forms):
+        raise BadInput("real forms", f"they are no {count} rows of three numbers, not all of them 0")
+    return _with_points(forms, near_crossings(forms), planes, GIVEN, range(3))
+
+
 def _drawn(forms: Sequence[Form], planes: Sequence[Lines], reading: str, columns: Sequence[int]) -> RealLines:
-    crossings = real_crossings(forms)
+    return _with_points(forms, real_crossings(forms), planes, reading, columns)
+
+
+def _with_points(
+    forms: Sequence[Real], crossings: Sequence[Lines], planes: Sequence[Lines], reading: str, columns: Sequence[int]
+) -> RealLines:
     _check(crossings, planes)
     points = tuple(RealPoint(lines, lines in set(planes)) for lines in crossings)
     apart = tuple(flat for flat in planes if flat not in set(crossings))
@@ -125,6 +141,30 @@ def real_crossings(forms: Sequence[Form]) -> List[Lines]:
     for (i, a), (j, b) in combinations(enumerate(forms, 1), 2):
         through.setdefault(_primitive(cross(a, b)), set()).update((i, j))
     return sorted((tuple(sorted(it)) for it in through.values()), key=lambda it: (len(it), it))
+
+
+def near_crossings(forms: Sequence[Real]) -> List[Lines]:
+    """The same of forms with real coefficients, where points that differ by rounding alone are one."""
+    found: List[Tuple[Real, Set[int]]] = []
+    for (i, a), (j, b) in combinations(enumerate(forms, 1), 2):
+        x, y, z = (a[(k + 1) % 3] * b[(k + 2) % 3] - a[(k + 2) % 3] * b[(k + 1) % 3] for k in range(3))
+        length = math.hypot(x, y, z)
+        if length < NEAR * math.hypot(*a) * math.hypot(*b):
+            raise BadInput("real forms", f"the forms {i} and {j} are multiples of each other")
+        at = (x / length, y / length, z / length)
+        through = next((it for place, it in found if _is_near(place, at)), None)
+        if through is None:
+            found.append((at, {i, j}))
+        else:
+            through.update((i, j))
+    return sorted((tuple(sorted(it)) for _, it in found), key=lambda it: (len(it), it))
+
+
+def _is_near(one: Real, other: Real) -> bool:
+    """Whether two unit vectors are the same or opposite."""
+    same = math.dist(one, other)
+    opposite = math.dist(one, [-it for it in other])
+    return min(same, opposite) < NEAR
 
 
 def cross(a: Sequence[int], b: Sequence[int]) -> Form:

@@ -225,6 +225,75 @@ class Networkx(Bad):
         self.bad("edge 1", "loop", Arrangement.from_graph, networkx.Graph([("a", "a")]), FIELD)
 
 
+class Matrix:
+    """A matrix of Sage, over whose rows one goes."""
+
+    def __init__(self, rows):
+        self._rows = rows
+
+    def parent(self):
+        return Module()
+
+    def __iter__(self):
+        return iter(map(SageVector, self._rows))
+
+
+class FiniteField(Parent):
+    """GF(q) of Sage."""
+
+    def __init__(self, characteristic, order):
+        super().__init__(characteristic)
+        self._order = order
+
+    def order(self):
+        return Integer(self._order)
+
+    def __repr__(self):
+        return f"GF({self._order})"
+
+
+Integer.__eq__ = lambda self, other: self.value == int(other)
+Integer.__int__ = Integer.__index__
+
+
+class Fields(Bad):
+    def test_sage(self):
+        A = Arrangement.forms(Matrix([[Integer(1), Integer(0)], [Integer(1), Integer(-1)]]), FiniteField(31, 31))
+        self.assertEqual((line(A), A.field), ("forms 2 [1 0, 1 30]", FIELD))
+        self.bad("field", "GF(25) has not as many elements as its characteristic 5", Arrangement.type_a, 2, FiniteField(5, 25))
+        self.bad("field", "11 is none of", Arrangement.type_a, 2, FiniteField(11, 11))
+
+
+@unittest.skipUnless(importlib.util.find_spec("sympy"), "sympy is not installed")
+class Sympy(Bad):
+    def setUp(self):
+        import sympy
+
+        self.sympy = sympy
+        self.x, self.y = sympy.symbols("x y")
+
+    def test_forms(self):
+        x, y = self.x, self.y
+        A = Arrangement.forms([x, y, (x - y) / 2], self.sympy.GF(31))
+        self.assertEqual((line(A), A.variables), ("forms 2 [1 0, 0 1, 16 15]", ("x", "y")))
+        self.assertEqual(Arrangement.forms([x, y], 31, variables=[y, x]).variables, ("y", "x"))
+        numbered = self.sympy.symbols("x1:11")
+        self.assertEqual(Arrangement.forms(numbered, 31).variables, tuple(f"x{k}" for k in range(1, 11)))
+        self.assertEqual(line(Arrangement.cone([x, x - 1, 2 * (x + y) - 2 * x], FIELD)), "cone 2 [1 0 0, 1 0 30, 0 2 0]")
+        self.bad("form 1", "its term in x*y", Arrangement.forms, [x * y + x], FIELD)
+        self.bad("form 2", "its term in x**2", Arrangement.forms, [x, x ** 2], FIELD)
+        self.bad("form 1", "its term in sqrt(2)*x", Arrangement.forms, [self.sympy.sqrt(2) * x], FIELD)
+        self.bad("form 1", "has the constant 1", Arrangement.forms, [x + 1], FIELD)
+        self.bad("form 2", "no expression of sympy", Arrangement.forms, [x, "y"], FIELD)
+        self.bad("form 1", "its term in y", Arrangement.forms, [x + y], FIELD, "x")
+
+    def test_matrices(self):
+        half = self.sympy.Rational(1, 2)
+        self.assertEqual(line(Arrangement.forms(self.sympy.Matrix([[1, 0], [half, -1]]), FIELD)), "forms 2 [1 0, 16 30]")
+        self.bad("form 1, coefficient 2", "no integer and no fraction", Arrangement.forms, self.sympy.Matrix([[1, self.x]]), FIELD)
+        self.bad("form 1, coefficient 1", "no integer and no fraction", Arrangement.forms, self.sympy.Matrix([[0.5, 1]]), FIELD)
+
+
 class Numbers(unittest.TestCase):
     @unittest.skipUnless(importlib.util.find_spec("numpy"), "numpy is not installed")
     def test_numpy(self):

@@ -50,6 +50,15 @@ class Differs(unittest.TestCase):
         self.assertEqual(said, ["there is no such arrangement at 5: form 4: it is a multiple of form 3 over the field with 5 elements"])
         self.assertEqual(list(comparison.answers), [7])
 
+    def test_few_elements(self):
+        """Six lines over five elements may well be; it is the program that takes no such."""
+        six = Arrangement.forms("x, y, z, x + y, x + z, y + z", 31)
+        comparison, said = compared(six, [5, 7], ["rank"])
+        self.assertEqual(said, ["the program takes no such arrangement at 5: arrangement: 6 hyperplanes are not fewer than the 5 elements of the field"])
+        self.assertEqual(comparison.groups, ((7,),))
+        self.assertIn("<tr><th>7</th><td>3</td></tr>", comparison._repr_html_())
+        self.assertIn("<p>the program takes no such arrangement at 5", comparison._repr_html_())
+
     def test_number_of_hyperplanes(self):
         """Restricted to x, the forms y and y + 7z come together at 7."""
         A = Arrangement.forms(["x", "y", "x + y + 7*z"], 31).restrict(1)
