@@ -7,7 +7,9 @@
 >>> print(lines.poincare())
 2*t^2 + 3*t + 1
 """
-from .answers import Certificate, Flat, Freeness, Resolution, ResolutionMap, Triple, Value
+from .answers import (
+    Certificate, Flat, Freeness, ModularChain, MultiRestriction, Resolution, ResolutionMap, Triple, Value,
+)
 from .arrangements import Arrangement
 from .chains import ChainStep, SearchStopped
 from .errors import (
@@ -31,7 +33,7 @@ __version__ = "0.3"
 __all__ = [
     "PRIMES", "Answer", "AnswerCutOff", "ArrangeError", "Arrangement", "BadInput", "Certificate", "ChainStep", "Comparison",
     "ExteriorElement", "Factored", "Field", "Flat", "Freeness", "GradedVector", "Lattice", "Limit", "Limits",
-    "LocalComponent", "MatroidDiffers", "OverRationals", "Polynomial", "PrintedAnswer", "Program", "ProgramError",
+    "LocalComponent", "MatroidDiffers", "ModularChain", "MultiRestriction", "OverRationals", "Polynomial", "PrintedAnswer", "Program", "ProgramError",
     "ProgramFailed", "ProgramMismatch", "ProgramMissing", "Question", "RationalFreeness", "Refusal", "Resolution",
     "ResolutionMap", "Ring", "SearchStopped", "TimeOut", "Triple", "Value", "ask", "compare_primes", "factored",
     "faults_of_cofactor", "matrix_text", "over_rationals", "polynomial_in_t", "read_answers", "use",

@@ -177,7 +177,28 @@ class Certificate:
         return tuple(it.degree for it in self.basis) if self.is_free else None
 
 
+@dataclass(frozen=True)
+class ModularChain:
+    """Whether an arrangement is supersolvable: with a maximal chain of modular flats and the exponents that it shows."""
+
+    is_supersolvable: bool
+    flats: Tuple[Flat, ...] = ()
+    exponents: Tuple[int, ...] = ()
+
+    def __bool__(self) -> bool:
+        return self.is_supersolvable
+
+
+@dataclass(frozen=True)
+class MultiRestriction:
+    """What an arrangement cuts out of a hyperplane: the forms with Ziegler's multiplicities, and whether they are free."""
+
+    forms: Tuple[Tuple[int, ...], ...]
+    multiplicities: Tuple[int, ...]
+    freeness: Freeness
+
+
 Value = Union[
     int, List[int], Tuple[int, ...], List[Tuple[int, ...]], List[Flat], Polynomial, Triple, ExteriorElement,
-    List[GradedVector], Resolution, Freeness, Limit, Refusal,
+    List[GradedVector], Resolution, Freeness, Certificate, ModularChain, MultiRestriction, Limit, Refusal,
 ]

@@ -7,7 +7,7 @@ from fractions import Fraction
 from typing import Any, Iterable, Iterator, List, Optional, Sequence, Tuple, Union
 
 from . import foreign
-from .answers import Flat, Freeness, Resolution, Triple
+from .answers import Certificate, Flat, Freeness, ModularChain, MultiRestriction, Resolution, Triple
 from .builds import Build, Deleted, Family, Forms, Graphic, Restricted, Row, check_build, check_index, keep
 from .decided import Decided
 from .errors import ArrangeError, BadInput
@@ -368,6 +368,22 @@ class Arrangement(Decided):
     def free(self, multiplicities: Multiplicities = None, limits: Limits = Limits()) -> Freeness:
         """Whether that module is free: with a basis and a certificate, or with the number of its generators."""
         return ask_one(Question.free(self, multiplicities, limits), Freeness)
+
+    def certify(self, multiplicities: Multiplicities = None, limits: Limits = Limits()) -> Certificate:
+        """Whether that module is free: with a basis and its cofactor matrix, or with the number of its generators."""
+        return ask_one(Question.certify(self, multiplicities, limits), Certificate)
+
+    def hilbert(self, degree: int, multiplicities: Multiplicities = None, limits: Limits = Limits()) -> List[int]:
+        """The dimensions of that module in the degrees from 0 to this one."""
+        return ask_one(Question.hilbert(self, degree, multiplicities, limits), list)
+
+    def super(self) -> ModularChain:
+        """Whether the arrangement is supersolvable: with a maximal chain of modular flats and its exponents."""
+        return ask_one(Question.super(self), ModularChain)
+
+    def ziegler(self, index: int, limits: Limits = Limits()) -> MultiRestriction:
+        """The restriction to a hyperplane with Ziegler's multiplicities, and whether it is free."""
+        return ask_one(Question.ziegler(self, index, limits), MultiRestriction)
 
 
 def _shown(build: Build, field: Field) -> str:

@@ -46,7 +46,7 @@ class BadInput(ArrangeError, ValueError):
 class Limit(ArrangeError):
     """A question met a limit. A method raises it; among the answers of `ask` it is a value.
 
-    `kind` is flats, circuits, nbc, aomoto, pairs or degree, and `words` what the program printed.
+    `kind` is flats, circuits, nbc, aomoto, pairs, degree, chain or multiplicity, and `words` what the program printed.
     """
 
     def __init__(self, kind: str, asked: str) -> None:

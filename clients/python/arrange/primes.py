@@ -92,7 +92,7 @@ def compare_primes(
 def _maker(question: Asked) -> Callable[[Arrangement], Question]:
     if callable(question):
         return question
-    if question in ("triple", "normal", "aomoto") or not hasattr(Question, question):
+    if question in ("triple", "normal", "aomoto", "hilbert", "ziegler") or not hasattr(Question, question):
         raise BadInput(f"question {question}", "give a call that makes it, such as lambda A: Question.triple(A, 1)")
     made: Callable[[Arrangement], Question] = getattr(Question, question)
     return made

@@ -5,7 +5,9 @@ import re
 from dataclasses import dataclass
 from typing import Callable, Dict, Iterable, Iterator, List, Optional, Sequence, Tuple
 
-from .answers import Flat, Freeness, Resolution, ResolutionMap, Triple, Value
+from .answers import (
+    Certificate, Flat, Freeness, ModularChain, MultiRestriction, Resolution, ResolutionMap, Triple, Value,
+)
 from .errors import AnswerCutOff, Limit, ProgramMismatch, Refusal
 from .linear_forms import numbered
 from .polynomials import Exponents, ExteriorElement, GradedVector, Polynomial, Ring, polynomial_in_t
@@ -17,6 +19,8 @@ LIMITS = {
     "flats": ("flats",), "poincare": ("flats",), "characteristic": ("flats",), "triple": ("flats",),
     "circuits": ("circuits",), "nbc": ("nbc",), "aomoto": ("aomoto",),
     "gb": ("pairs", "degree"), "der": ("pairs", "degree"), "resolve": ("pairs", "degree"), "free": ("pairs", "degree"),
+    "certify": ("pairs", "degree"), "hilbert": ("pairs", "degree"), "super": ("chain",),
+    "ziegler": ("multiplicity", "pairs", "degree"),
 }
 
 
@@ -167,11 +171,11 @@ class Body:
             raise unreadable(text, f"a residue modulo {self.prime}")
         return number
 
-    def coordinates(self, text: str) -> Tuple[int, ...]:
-        """Residues, one for each variable."""
+    def coordinates(self, text: str, more: int = 0) -> Tuple[int, ...]:
+        """Residues, one for each variable and so many more."""
         numbers = tuple(map(self.residue, text.split(" ")))
-        if self.ring is not None and len(numbers) != len(self.ring.variables):
-            raise unreadable(text, f"{len(self.ring.variables)} coordinates")
+        if self.ring is not None and len(numbers) != len(self.ring.variables) + more:
+            raise unreadable(text, f"{len(self.ring.variables) + more} coordinates")
         return numbers
 
     def hyperplanes(self, text: str) -> Tuple[int, ...]:
@@ -231,6 +235,14 @@ class Body:
         ring = self.ring or self.take_width(len(entries))
         return GradedVector(int(form[1]), tuple(self.polynomial(it, ring) for it in entries))
 
+    def entries(self, text: str, size: int) -> Tuple[Polynomial, ...]:
+        """So many polynomials in parentheses."""
+        parts = text[1:-1].split(", ")
+        if not (text.startswith("(") and text.endswith(")")) or len(parts) != size:
+            raise unreadable(text, f"a vector with {size} entries")
+        ring = self.ring or self.take_width(size)
+        return tuple(self.polynomial(it, ring) for it in parts)
+
     def derivation(self, text: str) -> GradedVector:
         """A vector with an entry for each variable, and the degree of its entries."""
         vector = self.vector(text)
@@ -261,11 +273,12 @@ class Body:
 
 
 def _hyperplanes(body: Body) -> List[Tuple[int, ...]]:
-    counts = re.fullmatch(rf"({NATURAL}) in ([1-9][0-9]?)", body.rest)
+    counts = re.fullmatch(rf"({NATURAL}) in ([1-9][0-9]?)( affine)?", body.rest)
     if counts is None or body.count not in (None, int(counts[1])):
         raise unreadable(body.rest, "the numbers of hyperplanes and variables")
     body.take_width(int(counts[2]))
-    return [body.coordinates(body.line("a form")) for _ in range(int(counts[1]))]
+    more = 1 if counts[3] else 0  # a constant
+    return [body.coordinates(body.line("a form"), more) for _ in range(int(counts[1]))]
 
 
 def _flats(body: Body) -> List[Flat]:
@@ -323,6 +336,51 @@ def _freeness(body: Body) -> Freeness:
     return Freeness(True, size, tuple(basis), point, inverse)
 
 
+def _certificate(body: Body) -> Certificate:
+    if body.rest.startswith("none "):
+        return Certificate(False, body.natural(body.rest[5:]))
+    if body.rest != "yes":
+        raise unreadable(body.rest, "yes or none")
+    basis = [body.derivation(body.line("a vector"))]
+    size = len(basis[0].entries)
+    basis += [body.derivation(body.line("a vector")) for _ in range(size - 1)]
+    if (label := body.line("cofactor:")) != "cofactor:":
+        raise unreadable(label, "cofactor:")
+    return Certificate(True, size, tuple(basis), tuple(body.entries(body.line("a vector"), size) for _ in range(size)))
+
+
+def _modular_chain(body: Body) -> ModularChain:
+    if body.rest == "no":
+        return ModularChain(False)
+    if body.rest != "yes":
+        raise unreadable(body.rest, "yes or no")
+    flats: List[Flat] = []
+    while not (line := body.line("a flat or exponents:")).startswith("exponents:"):
+        rank, colon, members = line.partition(": ")
+        if not colon or body.natural(rank) != len(flats):
+            raise unreadable(line, f"a flat of rank {len(flats)}")
+        flats.append(Flat(len(flats), body.hyperplanes(members)))
+    sizes = [len(it.hyperplanes) for it in flats]
+    exponents = tuple(high - low for low, high in zip(sizes, sizes[1:]))
+    if not flats or line != " ".join(["exponents:", *map(str, exponents)]):
+        raise unreadable(line, "the exponents of the flats")
+    return ModularChain(True, tuple(flats), exponents)
+
+
+def _multirestriction(body: Body) -> MultiRestriction:
+    counts = re.fullmatch(rf"({NATURAL}) in ([1-9][0-9]?)", body.rest)
+    if counts is None:
+        raise unreadable(body.rest, "the numbers of hyperplanes and variables")
+    body.ring, body.count = Ring(body.prime, numbered(int(counts[2]))), int(counts[1])
+    forms, multiplicities = [], []
+    for _ in range(body.count):
+        form, _, multiplicity = body.line("a form").partition(": ")
+        forms.append(body.coordinates(form))
+        multiplicities.append(body.natural(multiplicity))
+    body.rest = body.behind("free:")
+    return MultiRestriction(tuple(forms), tuple(multiplicities), _freeness(body))
+
+
 READERS: Dict[str, Callable[[Body], Value]] = {
     "hyperplanes": _hyperplanes,
     "point": lambda body: body.coordinates(body.rest),
@@ -339,4 +397,8 @@ READERS: Dict[str, Callable[[Body], Value]] = {
     "der": _vectors,
     "resolve": _resolution,
     "free": _freeness,
+    "certify": _certificate,
+    "hilbert": lambda body: list(body.naturals(body.rest)),
+    "super": _modular_chain,
+    "ziegler": _multirestriction,
 }

@@ -15,8 +15,9 @@ if TYPE_CHECKING:
 
 WORDS = (
     "hyperplanes", "point", "rank", "flats", "poincare", "characteristic", "triple", "circuits", "nbc", "normal",
-    "aomoto", "gb", "der", "resolve", "free",
+    "aomoto", "gb", "der", "resolve", "free", "certify", "hilbert", "super", "ziegler",
 )
+MOST_DEGREE = 240
 MOST_BYTES = 1_048_576
 MOST_MULTIPLICITY = 20
 Multiplicities = Union[None, int, Sequence[int]]
@@ -58,7 +59,7 @@ class Question:
     def line(self, name: str) -> str:
         return f"{self.word} {name} {self.argument}".rstrip()
 
-    # ---- the fifteen questions
+    # ---- the questions
 
     @classmethod
     def hyperplanes(cls, arrangement: Arrangement) -> Question:
@@ -130,6 +131,31 @@ class Question:
     @classmethod
     def free(cls, arrangement: Arrangement, multiplicities: Multiplicities = None, limits: Limits = Limits()) -> Question:
         return cls("free", arrangement, _multiplicities(arrangement, multiplicities), limits)
+
+    @classmethod
+    def certify(cls, arrangement: Arrangement, multiplicities: Multiplicities = None, limits: Limits = Limits()) -> Question:
+        return cls("certify", arrangement, _multiplicities(arrangement, multiplicities), limits)
+
+    @classmethod
+    def hilbert(
+        cls, arrangement: Arrangement, degree: int, multiplicities: Multiplicities = None, limits: Limits = Limits()
+    ) -> Question:
+        number = whole_number(degree, "degree")
+        if not 0 <= number <= MOST_DEGREE:
+            raise BadInput("degree", f"{number} is not from 0 to {MOST_DEGREE}")
+        return cls("hilbert", arrangement, f"{number} {_multiplicities(arrangement, multiplicities)}".rstrip(), limits)
+
+    @classmethod
+    def super(cls, arrangement: Arrangement) -> Question:
+        return cls("super", arrangement)
+
+    @classmethod
+    def ziegler(cls, arrangement: Arrangement, index: int, limits: Limits = Limits()) -> Question:
+        number = whole_number(index, "hyperplane")
+        if arrangement.dimension == 1:
+            raise BadInput("dimension", "an arrangement in dimension 1 has no restriction")
+        check_index(number, arrangement.build.count())
+        return cls("ziegler", arrangement, str(number), limits)
 
 
 # ---- what stands behind the name

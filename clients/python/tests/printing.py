@@ -1,5 +1,8 @@
 """Writes answers as the language says that they are printed: a second reading of it, for the tests."""
-from arrange import ExteriorElement, Flat, Freeness, GradedVector, Limit, Polynomial, Refusal, Resolution, Triple
+from arrange import (
+    Certificate, ExteriorElement, Flat, Freeness, GradedVector, Limit, ModularChain, MultiRestriction, Polynomial, Refusal,
+    Resolution, Triple,
+)
 
 
 def joined(numbers):
@@ -43,6 +46,19 @@ def body(word, value):
         return ["", *(f"{label}: {joined(getattr(value, label).coefficients())}" for label in ("whole", "deleted", "restricted"))]
     if isinstance(value, ExteriorElement):
         return [" " + exterior_text(value)]
+    if isinstance(value, Certificate) and not value:
+        return [f" none {value.generators}"]
+    if isinstance(value, Certificate):
+        cofactor = [f"({', '.join(map(polynomial_text, row))})" for row in value.cofactor]
+        return [" yes", *map(vector_text, value.basis), "cofactor:", *cofactor]
+    if isinstance(value, ModularChain) and not value:
+        return [" no"]
+    if isinstance(value, ModularChain):
+        return [" yes", *map(item_text, value.flats), joined(["exponents:", *value.exponents])]
+    if isinstance(value, MultiRestriction):
+        head, *rest = body("free", value.freeness)
+        forms = [f"{joined(form)}: {many}" for form, many in zip(value.forms, value.multiplicities)]
+        return [f" {len(forms)} in {len(value.forms[0])}", *forms, f"free:{head}", *rest]
     if isinstance(value, Freeness) and not value:
         return [f" no {value.generators}"]
     if isinstance(value, Freeness):
@@ -52,7 +68,7 @@ def body(word, value):
         for k, it in enumerate(value.maps):
             lines += [f"betti {k}: {joined(it.betti)}", *map(vector_text, it.rows)]
         return lines
-    if word in ("point", "aomoto"):
+    if word in ("point", "aomoto", "hilbert"):
         return [" " + joined(value)]
     if word == "rank":
         return [f" {value}"]

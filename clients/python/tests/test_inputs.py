@@ -164,6 +164,15 @@ class Questions(Bad):
         self.bad("limit degree", "241 is not", Limits, degree=241)
         self.bad("limit degree", "no integer", Limits, degree=2.5)
 
+    def test_numbers(self):
+        self.assertEqual(str(Question.hilbert(self.lines, 4)), "hilbert A 4")
+        self.assertEqual(str(Question.hilbert(self.lines, 240, 2)), "hilbert A 240 [2 2 2]")
+        self.assertEqual([str(it(self.lines)) for it in (Question.certify, Question.super)], ["certify A", "super A"])
+        self.assertEqual(str(Question.ziegler(self.lines, 3)), "ziegler A 3")
+        self.bad("degree", "241 is not from 0 to 240", Question.hilbert, self.lines, 241)
+        self.bad("hyperplane 4", "1 to 3", Question.ziegler, self.lines, 4)
+        self.bad("dimension", "dimension 1 has no restriction", Question.ziegler, Arrangement.forms(["x"], FIELD), 1)
+
     def test_elements(self):
         for element, wanted in (
             ("e2*e3", "e2 * e3"), ("-e1 + 33*e2 - 5", "- e1 + 2 * e2 - 5"), (" 2 ", "2"), ({(3, 2): -1, (): 5}, "30*e3*e2 + 5"), ({}, "0"), ("e01", "e1"),

@@ -87,6 +87,56 @@ refused line 4: bad list
 """
 
 
+# Of the same three lines and four planes, and of the braid arrangement on four strings.
+CHAINS = """\
+certify A: yes
+1: (1*x1, 1*x2)
+2: (0, 1*x1*x2 + 30*x2^2)
+cofactor:
+(1*x1*x2 + 30*x2^2, 30*x2)
+(0, 1*x1)
+hilbert A: 0 1 3 5 7
+super A: yes
+0: {}
+1: {1}
+2: {1 2 3}
+exponents: 1 2
+ziegler A: 1 in 1
+1: 2
+free: yes
+2: (1*x1^2)
+point: 1
+inverse:
+1
+certify G: none 4
+super G: no
+ziegler G: 3 in 2
+1 0: 1
+0 1: 1
+1 1: 1
+free: yes
+1: (1*x1, 1*x2)
+2: (0, 1*x1*x2 + 1*x2^2)
+point: 1 1
+inverse:
+1 15
+0 16
+super W: yes
+0: {}
+1: {1}
+2: {1 2 4}
+3: {1 2 3 4 5 6}
+exponents: 1 2 3
+super E: yes
+0: {}
+exponents:
+ziegler P: limit multiplicity
+super V: limit chain
+certify V: limit pairs
+hilbert V: limit degree
+"""
+
+
 def read(text):
     return list(read_answers(text.splitlines(keepends=True), 31))
 
@@ -142,6 +192,16 @@ class Worked(unittest.TestCase):
                 zero[k] += factor(3, 5, 11) * row.entries[k](3, 5, 11)
         self.assertEqual([it % 31 for it in zero], [0, 0, 0])
 
+    def test_chains(self):
+        certificate, dimensions, chain, restriction, none, no, other = [it.value for it in read(CHAINS)[:7]]
+        self.assertEqual((certificate.exponents, [str(it) for it in certificate.cofactor[0]]), ((1, 2), ["x1*x2 - x2^2", "-x2"]))
+        self.assertEqual(dimensions, [0, 1, 3, 5, 7])
+        self.assertEqual((chain.flats[2], chain.exponents), (Flat(2, (1, 2, 3)), (1, 2)))
+        self.assertEqual((restriction.forms, restriction.multiplicities, restriction.freeness.exponents), (((1,),), (2,), (2,)))
+        self.assertEqual((bool(none), none.generators, none.exponents, bool(no)), (False, 4, None, False))
+        self.assertTrue(other.freeness.is_certified())
+        self.assertEqual(value("hyperplanes B: 2 in 1 affine\n1 0\n1 30\n"), [(1, 0), (1, 30)])
+
     def test_limits_and_refusals(self):
         *_, pairs, flats = read(LINES)
         self.assertEqual((pairs.value, flats.value), (Limit("pairs", "free A"), Limit("flats", "flats V")))
@@ -167,7 +227,7 @@ class Whole(unittest.TestCase):
         self.assertEqual("".join(map(printed, answers)), text)
 
     def test_worked(self):
-        for text in (LINES, PLANES, EMPTY):
+        for text in (LINES, PLANES, EMPTY, CHAINS):
             self.check(text, 31)
 
     def test_examples(self):
@@ -228,7 +288,7 @@ class CutOff(unittest.TestCase):
     """A text that is cut off anywhere gives the answers before, and then says that it is cut off."""
 
     def test_every_place(self):
-        for text in (LINES, PLANES, EMPTY):
+        for text in (LINES, PLANES, EMPTY, CHAINS):
             answers = read(text)
             ends = [0]
             for answer in answers:
@@ -265,7 +325,11 @@ class Misprinted(unittest.TestCase):
         "resolve A: 2\nbetti 0: 0 1\n1: (1*x1)\nbetti 1: 0 1\n1: (0, 1)\n", "free A: maybe\n", "free A: no\n", "free A: no x\n",
         "free A: yes\n1: (1*x1)\npoint: 1\ninverse: 1\n", "free A: yes\n1: (1*x1)\npoint: 1 1\ninverse:\n1\n",
         "free A: yes\n1: (1*x1)\npoint: 1\ninverse:\n1 0\n", "free A: limit flats\n", "refused line 01: no field\n",
-        "refused line 2: no field\nrank A: 1\n",
+        "refused line 2: no field\nrank A: 1\n", "certify A: no 4\n", "certify A: yes\n1: (1*x1)\ncofactors:\n(1)\n",
+        "certify A: yes\n1: (1*x1)\ncofactor:\n(1, 0)\n", "certify A: yes\n1: (1*x1)\ncofactor:\n1\n", "hilbert A: 0 x\n", "super A: none\n",
+        "super A: yes\n0: {}\n2: {1}\nexponents: 1\n", "super A: yes\n0: {}\n1: {1}\nexponents: 2\n", "super A: yes\nexponents:\n",
+        "ziegler A: 1\n1: 2\nfree: no 4\n", "ziegler A: 1 in 1\n1\nfree: no 4\n", "ziegler A: 1 in 1\n1 0: 2\nfree: no 4\n", "ziegler A: 1 in 1\n1: 2\nfree no 4\n",
+        "super A: limit flats\n", "ziegler A: limit flats\n", "hyperplanes A: 1 in 1 affine\n1\n", "hyperplanes A: 1 in 2 Affine\n1 0 1\n",
     ]
 
     def test_each(self):
