@@ -33,6 +33,7 @@ export {
     "arrangeReduction",
     "arrangeResolution",
     "arrangeTriple",
+    "verifyCofactor",
     "verifyFreeness",
     -- the name of an option
     "Prime"
@@ -503,6 +504,20 @@ verifyFreeness (Arrangement, List, Freeness) := Boolean => o -> (A, m, F) -> (
     and all(forms, h -> sub(h, matrix {F#"point"}) != 0)
     and transpose values' * F#"inverse" == id_((P#"field")^l))
 
+-- Saito's criterion by a cofactor matrix: both products with that of the basis are the product of the forms
+verifyCofactor = method(Options => simple)
+verifyCofactor (Arrangement, Matrix, Matrix) := Boolean => o -> (A, G, N) -> verifyCofactor(A, toList(#hyperplanes A : 1), G, N, o)
+verifyCofactor (Arrangement, List, Matrix, Matrix) := Boolean => o -> (A, m, G, N) -> (
+    P := prepare(A, o.Prime);
+    R := P#"ring";
+    l := P#"dimension";
+    forms := hyperplanes P#"reduction";
+    if #m =!= #forms or any({G, N}, M -> ring M =!= R or numRows M =!= l or numColumns M =!= l) then return false;
+    Q := product(#forms, i -> (forms#i)^(m#i)) * id_(R^l);
+    isMember := (theta, i) -> all(flatten entries ((transpose jacobian matrix {{forms#i}}) * theta), f -> f % (forms#i)^(m#i) == 0);
+    isHomogeneous G and sum flatten degrees source G == sum m and all(#forms, i -> isMember(G, i))
+    and entries (G * N) == entries Q and entries (N * G) == entries Q)
+
 -- generators of D(A, m) as vectors
 derivationsHere = (A, m) -> (
     R := ring A;
@@ -605,6 +620,59 @@ doc ///
     SeeAlso
         HyperplaneArrangements
         arrangeCheck
+    Subnodes
+        :Where the program is
+        "Configuring"
+        :What goes in
+        Prime
+        arrangeReduction
+        :Combinatorics
+        arrangeHyperplanes
+        arrangePoint
+        arrangeRank
+        arrangeFlats
+        arrangePoincare
+        arrangeCharacteristic
+        arrangeTriple
+        arrangeCircuits
+        arrangeNBC
+        :The Orlik-Solomon algebra
+        arrangeNormal
+        arrangeAomoto
+        :Logarithmic derivations
+        arrangeGB
+        arrangeDer
+        arrangeResolution
+        arrangeBetti
+        arrangeFree
+        Freeness
+        :What Macaulay2 says
+        verifyFreeness
+        verifyCofactor
+        arrangeCheck
+        Comparison
+        :Limits
+        ArrangeLimit
+///
+
+doc ///
+    Key
+        "Configuring"
+    Headline
+        where the program is looked for
+    Description
+        Text
+            The program is the one that the configuration of this package names; else the one that the environment variable
+            {\tt ARRANGE} names; else {\tt arrange} on the PATH. It is proved, built and installed by {\tt ./arrange
+            --install PREFIX} in its repository, which puts it into {\tt PREFIX/bin}.
+        CannedExample
+            i1 : loadPackage("Arrange", Configuration => {"program" => "/usr/local/bin/arrange"});
+        Text
+            The same may stand for good in the file {\tt init-Arrange.m2} of the application directory, which Macaulay2 makes
+            at the first installation. A relative path is taken from the folder in which Macaulay2 runs. Each question starts the
+            program once; nothing of a run is kept.
+    SeeAlso
+        Arrange
 ///
 
 doc ///
@@ -1031,6 +1099,33 @@ doc ///
 
 doc ///
     Key
+        verifyCofactor
+        (verifyCofactor, Arrangement, Matrix, Matrix)
+        (verifyCofactor, Arrangement, List, Matrix, Matrix)
+        [verifyCofactor, Prime]
+    Headline
+        checks a basis of derivations by its cofactor matrix
+    Usage
+        verifyCofactor(A, G, N)
+        verifyCofactor(A, m, G, N)
+    Inputs
+        A : Arrangement
+        m : List
+            of multiplicities
+        G : Matrix
+            whose columns are the basis
+        N : Matrix
+        Prime => ZZ
+    Outputs
+        : Boolean
+            whether both products of G and N are the identity times the product of the forms with their multiplicities, the
+            columns of G are derivations, and their degrees sum up to the multiplicities: so they are a basis
+    SeeAlso
+        verifyFreeness
+///
+
+doc ///
+    Key
         ArrangeLimit
         (net, ArrangeLimit)
         (toString, ArrangeLimit)
@@ -1151,6 +1246,32 @@ assert verifyFreeness(A, {2, 1, 1}, arrangeFree(A, {2, 1, 1}))
 assert((arrangeFree(A, {0, 0, 0}))#"exponents" == {0, 0})
 C = arrangeResolution A
 assert(length C == 0 and C_0 == R^{-1, -2})
+///
+
+-- what is damaged is refused
+TEST ///
+R = ZZ/31[x,y]
+A = arrangement {x, y, x - y}
+F = arrangeFree A
+with' = (key, value) -> new Freeness from merge(F, hashTable {key => value}, last)
+assert verifyFreeness(A, with'("exponents", {1, 2}))
+for i to 1 do for j to 1 do (
+    E := map(R^2, R^2, {(i, j) => 1});
+    assert not verifyFreeness(A, with'("inverse", F#"inverse" + sub(E, ZZ/31)));
+    assert not verifyFreeness(A, with'("basis", map(R^2, R^{-1, -2}, F#"basis" + y^(j + 1) * E))))
+assert not verifyFreeness(arrangement {x, y, x + y}, F)
+assert not verifyFreeness(A, {2, 1, 1}, F)
+G = map(R^2, R^{-1, -2}, {{x, 0}, {y, x*y - y^2}})
+N = matrix {{x*y - y^2, 0}, {-y, x}}
+assert verifyCofactor(A, G, N)
+assert not verifyCofactor(A, {2, 1, 1}, G, N)
+assert not verifyCofactor(arrangement {x, y, x + y}, G, N)
+for i to 1 do for j to 1 do (
+    E := map(R^2, R^2, {(i, j) => 1});
+    assert not verifyCofactor(A, G, N + x*E);
+    assert not verifyCofactor(A, map(R^2, R^{-1, -2}, G + y^(j + 1) * E), N))
+-- members with a cofactor matrix that generate too little
+assert not verifyCofactor(arrangement {x, y}, map(R^2, R^{-2, -2}, x*y*id_(R^2)), id_(R^2))
 ///
 
 -- four general planes are not free
