@@ -8,7 +8,7 @@ from typing import Any, Iterable, Iterator, List, Optional, Sequence, Tuple, Uni
 
 from . import foreign
 from .answers import Certificate, Flat, Freeness, ModularChain, MultiRestriction, Resolution, Triple
-from .builds import Build, Deleted, Family, Forms, Graphic, Restricted, Row, check_build, check_index, keep
+from .builds import Build, Deleted, Family, Forms, Graphic, Restricted, Row, check_build, check_index, is_affine, keep
 from .decided import Decided
 from .errors import ArrangeError, BadInput
 from .fields import Field, FieldLike, field_of, rational, whole_number
@@ -65,7 +65,21 @@ class Arrangement(Decided):
         return cls._of_forms(_listed(forms), field_of(field), variables, is_cone=True)
 
     @classmethod
-    def _of_forms(cls, forms: List[FormLike], field: Field, variables: Variables, is_cone: bool) -> Arrangement:
+    def affine(cls, forms: Iterable[FormLike], field: FieldLike = GREATEST, variables: Variables = None) -> Arrangement:
+        """Affine hyperplanes as they are: rows that end in the constant, or texts or polynomials with one.
+
+        Of these the program answers `hyperplanes`, `point`, `rank`, `flats`, `poincare`, `characteristic` and `triple`.
+
+        >>> print(Arrangement.affine(["x", "x - 1"], 31))
+        2 affine hyperplanes in x over field 31: affine 1 [1 0, 1 30]
+        """
+        return cls._of_forms(_listed(forms), field_of(field), variables, is_cone=True, is_affine=True)
+
+    @classmethod
+    def _of_forms(
+        cls, forms: List[FormLike], field: Field, variables: Variables, is_cone: bool, is_affine: bool = False
+    ) -> Arrangement:
+        """The arrangement of some forms: central ones, or with `is_cone` such with constants, as they are or their cone."""
         numbers = 0
         if forms and foreign.is_of_sympy(forms[0]):
             names = _names_of_sympy(forms, variables)
@@ -81,9 +95,9 @@ class Arrangement(Decided):
             rows = [_row_of_numbers(row, f"form {i}") for i, row in enumerate(given, 1)]
             names = _names_of_rows(rows, variables, is_cone)
             numbers = foreign.characteristic_of_rows(given)
-        if is_cone:
+        if is_cone and not is_affine:
             names += (_homogenizing(names),)
-        return cls(field, Forms(len(names), tuple(rows), is_cone, numbers), names)
+        return cls(field, Forms(len(names), tuple(rows), is_cone and not is_affine, numbers, is_affine), names)
 
     @classmethod
     def type_a(cls, rank: int, field: FieldLike = GREATEST) -> Arrangement:
@@ -176,6 +190,11 @@ class Arrangement(Decided):
         return self.build.dimension
 
     @property
+    def is_affine(self) -> bool:
+        """Whether its hyperplanes are given as affine ones, with constants."""
+        return is_affine(self.build)
+
+    @property
     def ring(self) -> Ring:
         """The ring in which the forms lie."""
         return Ring(self.field.prime, self.variables)
@@ -190,7 +209,9 @@ class Arrangement(Decided):
 
     @cached_property
     def _rows(self) -> Tuple[Tuple[int, ...], ...]:
-        return tuple(self.hyperplanes())
+        """The coefficients, and of affine forms the constants too where all of them are zero and none is printed."""
+        width = self.dimension + self.is_affine
+        return tuple((*row, 0)[:width] for row in self.hyperplanes())
 
     def __getitem__(self, index: int) -> Polynomial:
         """The form of a hyperplane, which are counted from 1.
@@ -200,7 +221,11 @@ class Arrangement(Decided):
         """
         number = whole_number(index, "hyperplane")
         check_index(number, len(self))
-        return self.ring.form(self._rows[number - 1])
+        return self._form(self._rows[number - 1])
+
+    def _form(self, row: Sequence[int]) -> Polynomial:
+        """The form with these coefficients, and the constant behind them where there is one."""
+        return self.ring.form(row[: self.dimension]) + sum(row[self.dimension :])
 
     def __iter__(self) -> Iterator[Polynomial]:
         """The forms of the hyperplanes.
@@ -208,7 +233,7 @@ class Arrangement(Decided):
         >>> print(*Arrangement.boolean(3, 31), sep=", ")
         x1, x2, x3
         """
-        return map(self.ring.form, self._rows)
+        return map(self._form, self._rows)
 
     def __contains__(self, form: FormLike) -> bool:
         """Whether the hyperplane of a form is one of the arrangement's.
@@ -218,15 +243,17 @@ class Arrangement(Decided):
         """
         if isinstance(form, Polynomial):
             row = tuple(form.derivative(k).coefficient(*[0] * self.dimension) for k in range(self.dimension))
-            return self.ring.form(row) == form and monic(row, self.field.prime) in self.hyperplane_set()
-        return Arrangement.forms([form], self.field, self.variables).issubset(self)
+            row += (form.coefficient(*[0] * self.dimension),) if self.is_affine else ()
+            return self._form(row) == form and monic(row, self.field.prime) in self.hyperplane_set()
+        made = Arrangement.affine if self.is_affine else Arrangement.forms
+        return made([form], self.field, self.variables).issubset(self)
 
     def __repr__(self) -> str:
         return f"<Arrangement: {self}>"
 
     def __str__(self) -> str:
         count = self.build.count()
-        many = "a restriction" if count is None else f"{count} hyperplane{'s' * (count != 1)}"
+        many = "a restriction" if count is None else f"{count} {'affine ' * self.is_affine}hyperplane{'s' * (count != 1)}"
         text = _shown(self.build, self.field)
         return f"{many} in {', '.join(self.variables)} over {self.field}: {text}"
 

@@ -15,7 +15,7 @@ Row = Tuple[Fraction, ...]
 
 @dataclass(frozen=True)
 class Forms:
-    """Linear forms by their coefficients, or where `is_cone` holds affine ones by these and the constant.
+    """Linear forms by their coefficients; or affine ones by these and the constant, for the cone over them or as they are.
 
     The numbers are integers and fractions; where `characteristic` is a prime they are residues modulo it.
     """
@@ -24,13 +24,16 @@ class Forms:
     rows: Tuple[Row, ...]
     is_cone: bool = False
     characteristic: int = 0
+    is_affine: bool = False
 
     def count(self) -> Optional[int]:
         return len(self.rows) + self.is_cone
 
     def line(self, field: Field, name_of: Callable[[Build], str]) -> str:
         rows = ", ".join(" ".join(str(field.residue(it)) for it in row) for row in self.rows)
-        return f"cone {self.dimension - 1} [{rows}]" if self.is_cone else f"forms {self.dimension} [{rows}]"
+        if self.is_cone:
+            return f"cone {self.dimension - 1} [{rows}]"
+        return f"{'affine' if self.is_affine else 'forms'} {self.dimension} [{rows}]"
 
     def check(self, field: Field) -> None:
         """Raises BadInput with the place of the first form that is zero, or else is a multiple of one before it."""
@@ -39,7 +42,7 @@ class Forms:
             raise BadInput("forms", f"they are of characteristic {self.characteristic}, and not {over}")
         residues = self.residues(field)
         for i, row in enumerate(residues, 1):
-            if not any(row):
+            if not any(row[: self.dimension]):
                 raise BadInput(f"form {i}", f"it is zero {over}")
         first: Dict[Tuple[int, ...], int] = {}
         for i, row in enumerate(residues, 1):
@@ -151,6 +154,13 @@ class Restricted:
 
 
 Build = Union[Forms, Family, Graphic, Deleted, Restricted]
+
+
+def is_affine(build: Build) -> bool:
+    """Whether it is made of affine hyperplanes, with constants."""
+    if isinstance(build, (Deleted, Restricted)):
+        return is_affine(build.whole)
+    return isinstance(build, Forms) and build.is_affine
 
 
 def keep(build: Build, members: Sequence[int], count: int) -> Build:

@@ -31,6 +31,13 @@ class Decided:
     def _arrangement(self) -> Arrangement:
         return cast("Arrangement", self)
 
+    @property
+    def _central(self) -> Arrangement:
+        """The arrangement where its hyperplanes all go through the origin by what they are made of."""
+        if self._arrangement.is_affine:
+            raise BadInput("arrangement", "its hyperplanes are affine, and this is asked of central ones, such as its cone")
+        return self._arrangement
+
     # ---- the lattice of flats
 
     def lattice(self) -> Lattice:
@@ -40,7 +47,7 @@ class Decided:
         >>> Arrangement.type_a(3).lattice()
         <Lattice of 15 flats by rank: 1, 6, 7, 1>
         """
-        return Lattice(self._arrangement.flats())
+        return Lattice(self._central.flats())
 
     def factored_characteristic(self) -> Factored:
         """The characteristic polynomial in its linear factors.
@@ -67,9 +74,12 @@ class Decided:
     def bounded_regions(self) -> int:
         """How many of them are bounded where one hyperplane, whichever, is at infinity and lines of the centre are points.
 
-        It is Crapo's invariant, from the characteristic polynomial: its derivative, without the factors t, at 1.
+        It is Crapo's invariant, from the characteristic polynomial: its derivative, without the factors t, at 1. Of affine
+        hyperplanes it is how many of their own regions are, the absolute value of that polynomial at 1.
         """
         whole = self._arrangement.characteristic().coefficients()
+        if self._arrangement.is_affine:
+            return abs(sum(whole))
         least = next(k for k, it in enumerate(whole) if it)
         return abs(sum(k * it for k, it in enumerate(whole[least:])))
 
@@ -77,7 +87,7 @@ class Decided:
 
     def _closure(self, flat: FlatLike) -> Tuple[int, ...]:
         """The hyperplanes whose forms lie in the span of those of a flat."""
-        arrangement = self._arrangement
+        arrangement = self._central
         rows = arrangement.hyperplanes()
         span = echelon([rows[it - 1] for it in arrangement._members(flat)], arrangement.field.prime)
         return tuple(k for k, row in enumerate(rows, 1) if not any(span.rest(row)))
@@ -89,7 +99,7 @@ class Decided:
         >>> print(*Arrangement.type_a(3, 31).localize([1, 4]), sep=", ")
         x1 - x2, x1 - x3, x2 - x3
         """
-        return self._arrangement.keep(self._closure(flat))
+        return self._central.keep(self._closure(flat))
 
     def restrict_to(self, flat: FlatLike) -> Arrangement:
         """The arrangement that the others cut out of a flat, hyperplane by hyperplane in the coordinates of `restrict`.
@@ -98,7 +108,7 @@ class Decided:
         >>> len(Arrangement.type_b(4, 101).restrict_to([5, 7]))
         4
         """
-        arrangement = self._arrangement
+        arrangement = self._central
         prime = arrangement.field.prime
         rows: Sequence[Residues] = arrangement.hyperplanes()
         left = {rows[it - 1] for it in arrangement._members(flat)}
@@ -117,8 +127,8 @@ class Decided:
         >>> Arrangement.type_a(3, 31).ziegler_multiplicities(1)
         [2, 2, 1]
         """
-        rows = self._arrangement.hyperplanes()
-        places = traces(rows, rows[whole_number(index, "hyperplane") - 1], self._arrangement.field.prime)
+        rows = self._central.hyperplanes()
+        places = traces(rows, rows[whole_number(index, "hyperplane") - 1], self._central.field.prime)
         found = [it for it in places if it is not None]
         return [found.count(k) for k in range(len(set(found)))]
 
@@ -129,7 +139,7 @@ class Decided:
         >>> print(Arrangement.type_a(2, 31).essentialization())
         3 hyperplanes in x1, x2 over field 31: forms 2 [1 30, 1 0, 0 1]
         """
-        arrangement = self._arrangement
+        arrangement = self._central
         rows, number = self._exact()
         columns = echelon(arrangement.hyperplanes(), arrangement.field.prime).columns()
         if not columns:
@@ -140,7 +150,7 @@ class Decided:
 
     def _exact(self) -> Tuple[Tuple[Row, ...], int]:
         """The forms as they were given, where they are rational; or residues, with their characteristic."""
-        arrangement = self._arrangement
+        arrangement = self._central
         if _is_cut(arrangement.build) or _characteristic(arrangement.build):
             rows = arrangement.hyperplanes()
             return tuple(tuple(map(Fraction, row)) for row in rows), arrangement.field.prime
@@ -148,8 +158,8 @@ class Decided:
 
     def _with(self, other: Arrangement) -> Tuple[Tuple[Row, ...], Tuple[Row, ...], int]:
         """The forms of two arrangements over one field, and the characteristic of all of them."""
-        if other.field != self._arrangement.field:
-            raise BadInput("field", f"{other.field} is another one than {self._arrangement.field}")
+        if other.field != self._central.field:
+            raise BadInput("field", f"{other.field} is another one than {self._central.field}")
         (own, number), (theirs, other_number) = self._exact(), other._exact()
         return own, theirs, max(number, other_number)
 
@@ -160,7 +170,7 @@ class Decided:
         >>> print(Arrangement.boolean(1, 31).product(Arrangement.type_a(1, 31)))
         2 hyperplanes in x1, x2, x3 over field 31: forms 3 [1 0 0, 0 1 30]
         """
-        arrangement = self._arrangement
+        arrangement = self._central
         own, theirs, number = self._with(other)
         left, right = arrangement.dimension, other.dimension
         rows = [(*row, *[Fraction(0)] * right) for row in own] + [(*[Fraction(0)] * left, *row) for row in theirs]
@@ -175,7 +185,7 @@ class Decided:
         >>> print(Arrangement.forms("x, y", 31).union(Arrangement.forms("2*x, x - y", 31)))
         3 hyperplanes in x, y over field 31: forms 2 [1 0, 0 1, 1 30]
         """
-        arrangement = self._arrangement
+        arrangement = self._central
         if other.dimension != arrangement.dimension:
             raise BadInput("dimension", f"{other.dimension} is another one than {arrangement.dimension}")
         own, theirs, number = self._with(other)
@@ -193,7 +203,7 @@ class Decided:
         >>> Arrangement.forms("x, y, x - y", 31).decone(1)
         [(1, 0), (30, 1)]
         """
-        arrangement = self._arrangement
+        arrangement = self._central
         check = arrangement._members([index])[0]
         rows, prime = arrangement.hyperplanes(), arrangement.field.prime
         own = rows[check - 1]
@@ -209,7 +219,7 @@ class Decided:
     def hyperplane_set(self) -> FrozenSet[Residues]:
         """The forms, each by its multiple whose first coefficient other than 0 is 1."""
         arrangement = self._arrangement
-        return frozenset(monic(it, arrangement.field.prime) for it in arrangement.hyperplanes())
+        return frozenset(monic(it, arrangement.field.prime) for it in arrangement._rows)
 
     def same_hyperplanes(self, other: Arrangement) -> bool:
         """Whether both have the same hyperplanes, in whatever order and by whatever forms.
@@ -223,7 +233,7 @@ class Decided:
     def issubset(self, other: Arrangement) -> bool:
         """Whether all its hyperplanes are among those of the other."""
         arrangement = self._arrangement
-        same = (other.field, other.dimension) == (arrangement.field, arrangement.dimension)
+        same = (other.field, other.dimension, other.is_affine) == (arrangement.field, arrangement.dimension, arrangement.is_affine)
         return same and self.hyperplane_set() <= other.hyperplane_set()
 
     # ---- freeness
@@ -242,7 +252,7 @@ class Decided:
         """In words, what an answer of freeness does not show; nothing where it is right."""
         if not answer.is_free:
             raise BadInput("answer", "that it is not free has no certificate; one with a basis is wanted")
-        arrangement = self._arrangement
+        arrangement = self._central
         forms = list(arrangement)
         given = 1 if multiplicities is None else multiplicities
         numbers = [given] * len(forms) if isinstance(given, int) else list(given)
@@ -265,7 +275,7 @@ class Decided:
         hyperplane 2: exponents (1, 1), of the restriction (1,)
         hyperplane 1: exponents (1, 2), of the restriction (1,)
         """
-        return chains.inductive_chain(self._arrangement, most)
+        return chains.inductive_chain(self._central, most)
 
     def is_inductively_free(self) -> bool:
         return self.inductive_chain() is not None
@@ -275,7 +285,7 @@ class Decided:
 
         `flats` is asked once, and `free` of each arrangement that is tried.
         """
-        return chains.free_chain(self._arrangement, most)
+        return chains.free_chain(self._central, most)
 
     # ---- over the rationals
 
@@ -286,7 +296,7 @@ class Decided:
         >>> Arrangement.forms("x, y, x + 32003*y", 31).has_good_reduction()
         True
         """
-        return rationals.has_good_reduction(self._arrangement)
+        return rationals.has_good_reduction(self._central)
 
     # ---- the Orlik-Solomon algebra and relations
 
@@ -297,7 +307,7 @@ class Decided:
         >>> print(*Arrangement.forms("x, y, x - y", 31).orlik_solomon_generators())
         e1*e2 - e1*e3 + e2*e3
         """
-        arrangement = self._arrangement
+        arrangement = self._central
         return [boundary(it, arrangement.field.prime) for it in arrangement.circuits()]
 
     def is_formal(self) -> bool:
@@ -307,7 +317,7 @@ class Decided:
         >>> Arrangement.type_a(3).is_formal(), Arrangement.forms("x, y, z, x + y + z", 31).is_formal()
         (True, False)
         """
-        arrangement = self._arrangement
+        arrangement = self._central
         pencils = [it.hyperplanes for it in arrangement.flats(rank=2)]
         return has_short_relations(arrangement.hyperplanes(), pencils, arrangement.field.prime)
 
@@ -318,7 +328,7 @@ class Decided:
         >>> [(str(it.pencil), it.depth) for it in Arrangement.forms("x, y, x - y", 31).local_resonance()]
         [('2: {1 2 3}', 1)]
         """
-        arrangement = self._arrangement
+        arrangement = self._central
         pencils = [it for it in arrangement.flats(rank=2) if len(it.hyperplanes) > 2]
         weights = [local_weights(it, len(arrangement)) for it in pencils]
         answers = ask([Question.aomoto(arrangement, it) for it in weights])

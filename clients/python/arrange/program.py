@@ -22,6 +22,7 @@ from .questions import Question, Script
 # The refusals that a right script may meet, for what is not seen without the program.
 LAWFUL = (
     "field not listed", "dimension", "bad index", "bad graph", "zero form", "repeated", "too many", "bad list", "bad limit",
+    "not central",
 )
 Kind = TypeVar("Kind")
 

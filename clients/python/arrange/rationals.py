@@ -98,6 +98,8 @@ def has_good_reduction(arrangement: Arrangement) -> bool:
     rows = rational_rows(arrangement.build)
     if len(rows) != len(arrangement):
         return False
+    if arrangement.is_affine:
+        raise BadInput("arrangement", "its hyperplanes are affine, and this is asked of central ones, such as its cone")
     flats = arrangement.flats()
     return all(rank_over_rationals([rows[i - 1] for i in it.hyperplanes]) == it.rank for it in flats)
 

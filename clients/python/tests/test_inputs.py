@@ -1,6 +1,7 @@
 """What is said before the program is asked, with the place; and the scripts that lawful input makes."""
 import unittest
 from fractions import Fraction
+from unittest import mock
 
 from arrange import Arrangement, BadInput, Field, Limits, Program, Question, Ring, ask
 from arrange.questions import MOST_BYTES, Script
@@ -101,6 +102,37 @@ class Cones(Bad):
         self.bad("form 2", "it is a multiple of form 1", Arrangement.cone, ["x - 1", "2 - 2*x"], FIELD)
         self.bad("form 2", "the form of the cone's last variable is a multiple of form 1", Arrangement.cone, [[0, 1]], FIELD)
         self.bad("dimension", "11 is not", Arrangement.cone, [[1] * 11], FIELD)
+
+
+class Affine(Bad):
+    def test_lines(self):
+        lines = Arrangement.affine("x, x - 1, y + 2*x", FIELD)
+        self.assertEqual((line(lines), lines.variables, lines.is_affine), ("affine 2 [1 0 0, 1 0 30, 2 1 0]", ("x", "y"), True))
+        self.assertEqual(line(Arrangement.affine([[1, 0], [1, -1]], FIELD)), "affine 1 [1 0, 1 30]")
+        self.assertEqual(line(Arrangement.affine([], FIELD, 1)), "affine 1 []")
+        self.assertTrue(lines.delete(1).is_affine and lines.restrict(3).is_affine)
+        self.assertEqual(line(lines.keep([1, 3])), "affine 2 [1 0 0, 2 1 0]")
+        self.assertFalse(Arrangement.cone("x - 1", FIELD).is_affine)
+        self.assertEqual(line(lines.over(7)), "affine 2 [1 0 0, 1 0 6, 2 1 0]")
+
+    def test_forms(self):
+        """The rows that are printed end in the constants, but where all of these are zero."""
+        lines = Arrangement.affine("x, x - 1", FIELD, "x")
+        with mock.patch.object(Arrangement, "hyperplanes", lambda self: [(1, 0), (1, 30)]):
+            self.assertEqual([str(it) for it in lines], ["x", "x - 1"])
+            self.assertTrue(2 * lines[2] in lines and lines[2] + 1 in lines and lines.same_hyperplanes(lines))
+            self.assertFalse(lines[2] - 1 in lines or lines[2] ** 2 in lines)
+        with mock.patch.object(Arrangement, "hyperplanes", lambda self: [(1,)]):
+            self.assertEqual(lines.keep([1]).hyperplane_set(), {(1, 0)})
+
+    def test_faults(self):
+        self.bad("form 1", "it is zero", Arrangement.affine, [[0, 0, 1]], FIELD)
+        self.bad("form 2", "it is a multiple of form 1", Arrangement.affine, ["x - 1", "2 - 2*x"], FIELD)
+        self.bad("form 2", "it has 2 numbers where 3 are wanted", Arrangement.affine, [[1, 0, 0], [1, 0]], FIELD)
+        lines = Arrangement.affine("x, x - 1", FIELD)
+        for asked in (lines.lattice, lines.essentialization, lines.has_good_reduction, lines.is_formal, lines.inductive_chain):
+            self.bad("arrangement", "affine, and this is asked of central ones", asked)
+        self.bad("arrangement", "affine", lines.localize, [1])
 
 
 class Families(Bad):
