@@ -42,7 +42,7 @@ class Arrangement(Decided):
 
     @classmethod
     def forms(cls, forms: Iterable[FormLike], field: FieldLike = GREATEST, variables: Variables = None) -> Arrangement:
-        """The arrangement of linear forms: rows of numbers, texts, or forms of Sage or sympy, or one text with commas.
+        """The arrangement of linear forms: rows of numbers, texts, polynomials also of Sage or sympy, or one text.
 
         >>> print(Arrangement.forms("x, y, x - y", 31))
         3 hyperplanes in x, y over field 31: forms 2 [1 0, 0 1, 1 30]
@@ -84,6 +84,9 @@ class Arrangement(Decided):
         if forms and foreign.is_of_sympy(forms[0]):
             names = _names_of_sympy(forms, variables)
             rows = [_row_of_sympy(form, names, f"form {i}", is_cone) for i, form in enumerate(forms, 1)]
+        elif forms and isinstance(forms[0], Polynomial):
+            names, numbers = forms[0].ring.variables, forms[0].ring.prime or 0
+            rows = [_row_of_polynomial(form, forms[0].ring, f"form {i}", is_cone) for i, form in enumerate(forms, 1)]
         elif forms and foreign.has_variables(forms[0]):
             names, numbers = foreign.ring_of(forms)
             rows = [_row_of_sage(form, names, f"form {i}", is_cone) for i, form in enumerate(forms, 1)]
@@ -241,10 +244,11 @@ class Arrangement(Decided):
         >>> "y - x" in Arrangement.forms(["x", "y", "x - y"], 31)
         True
         """
-        if isinstance(form, Polynomial):
-            row = tuple(form.derivative(k).coefficient(*[0] * self.dimension) for k in range(self.dimension))
-            row += (form.coefficient(*[0] * self.dimension),) if self.is_affine else ()
-            return self._form(row) == form and monic(row, self.field.prime) in self.hyperplane_set()
+        if isinstance(form, Polynomial) and form.ring == self.ring:
+            row, constant = form.linear_row() or ([], 0)
+            if constant and not self.is_affine:
+                return False
+            return monic([*row, *[constant] * self.is_affine], self.field.prime) in self.hyperplane_set()
         made = Arrangement.affine if self.is_affine else Arrangement.forms
         return made([form], self.field, self.variables).issubset(self)
 
@@ -464,6 +468,15 @@ def _row_of_text(text: str, names: Tuple[str, ...], place: str, is_cone: bool) -
 def _row_of_sympy(form: Any, names: Tuple[str, ...], place: str, is_cone: bool) -> Row:
     row, constant = foreign.coefficients_of_sympy(form, names, place)
     return _with_constant(row, constant, place, is_cone)
+
+
+def _row_of_polynomial(form: Any, ring: Ring, place: str, is_cone: bool) -> Row:
+    if not isinstance(form, Polynomial) or form.ring != ring:
+        raise BadInput(place, f"{form} lies in another ring than form 1")
+    found = form.linear_row()
+    if found is None:
+        raise BadInput(place, f"{form} is not linear")
+    return _with_constant(list(map(Fraction, found[0])), Fraction(found[1]), place, is_cone)
 
 
 def _row_of_sage(form: Any, names: Tuple[str, ...], place: str, is_cone: bool) -> Row:

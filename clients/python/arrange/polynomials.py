@@ -283,6 +283,18 @@ class Polynomial(Text):
 
     # ---- what it is made of
 
+    def linear_row(self) -> Optional[Tuple[List[int], int]]:
+        """The coefficients of a form and its constant, or None where its degree is above 1.
+
+        >>> (Ring(31, ("x", "y")).form([1, -1]) + 5).linear_row()
+        ([1, 30], 5)
+        """
+        if self.degree() > 1:
+            return None
+        size = len(self.ring.variables)
+        units = [tuple(int(j == k) for j in range(size)) for k in range(size)]
+        return [self.coefficient(*it) for it in units], self.coefficient(*[0] * size)
+
     def is_homogeneous(self, degree: int) -> bool:
         """Whether each term has this degree, as is so of the polynomial 0."""
         return all(sum(it) == degree for it in self.terms)

@@ -106,6 +106,17 @@ class Hands(Bad):
         self.bad("hyperplane 0", "counted from 1", LINES.__getitem__, 0)
         self.bad("hyperplane 4", "1 to 3", LINES.__getitem__, 4)
 
+    def test_polynomials(self):
+        """The forms of an arrangement make it again; products of them, and forms of another ring, do not."""
+        x, y = LINES.ring.generators()
+        self.assertEqual(line(Arrangement.forms([x, y, 2 * (x - y)], 31)), "forms 2 [1 0, 0 1, 2 29]")
+        self.assertTrue(Arrangement.forms(LINES, 31).same_hyperplanes(LINES))
+        self.assertEqual(line(Arrangement.cone([x, y - 1], 31)), "cone 2 [1 0 0, 0 1 30]")
+        self.bad("form 2", "x*y is not linear", Arrangement.forms, [x, x * y], 31)
+        self.bad("form 2", "lies in another ring", Arrangement.forms, [x, K4.ring.generators()[0]], 31)
+        self.bad("form 1", "has the constant", Arrangement.forms, [x + 1], 31)
+        self.bad("forms", "characteristic 31", Arrangement.forms, [x], 7)
+
     def test_several(self):
         self.assertEqual(line(LINES.delete([1, 3])), "forms 2 [0 1]")
         self.assertEqual(line(LINES.keep([3, 1])), "forms 2 [1 0, 1 30]")
