@@ -145,7 +145,7 @@ class Lattice:
         """For each flat the places of those that cover it.
 
         The flats of the next rank that have a hyperplane are a row of bits, and the rows of the members of a base are
-        intersected. So the time is that of the covers, and of as many intersections as the rank for each flat.
+        intersected. One of these flats alone has a further hyperplane, so there is an intersection more for each cover.
         """
         upper: List[List[int]] = [[] for _ in self.flats]
         bases: List[Optional[int]] = [None] * len(self.flats)
@@ -157,12 +157,22 @@ class Lattice:
                 base = bases[k] or 0
                 for hyperplane in digits(base):
                     both &= rows.get(hyperplane, 0)
-                upper[k] = [above.start + it for it in digits(both)]
+                upper[k] = sorted(above.start + it for it in self._covers_among(both, rows, above.start, self._sets[k]))
                 for it in upper[k]:
                     if bases[it] is None:
                         new = self._sets[it] & ~self._sets[k]
                         bases[it] = base | new & -new
         return upper
+
+    def _covers_among(self, both: int, rows: Dict[int, int], start: int, below: int) -> Iterator[int]:
+        """The places, within a rank that begins at the start, of the flats among `both` that cover a flat."""
+        missing = self._sets[-1] & ~below
+        while missing:
+            place = (both & rows.get((missing & -missing).bit_length() - 1, 0)).bit_length() - 1
+            if place < 0:
+                raise BadInput("flats", "these are not all flats of an arrangement")
+            yield place
+            missing &= ~self._sets[start + place]
 
     @cached_property
     def _lower(self) -> List[List[int]]:

@@ -245,6 +245,8 @@ class Habits(unittest.TestCase):
         for flats in ([], [Flat(0, ()), Flat(1, (1,)), Flat(1, (2,))], [Flat(0, ()), Flat(2, (1, 2))]):
             with self.assertRaisesRegex(BadInput, "not all flats"):
                 Lattice(flats)
+        with self.assertRaisesRegex(BadInput, "not all flats"):
+            Lattice([it for it in K4.flats() if it.hyperplanes != (1, 6)]).covers()
         with self.assertRaisesRegex(BadInput, "kind"):
             K4.lattice().whitney(3)
 
