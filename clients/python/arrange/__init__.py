@@ -31,10 +31,11 @@ from .verification import faults_of_cofactor
 __version__ = "0.3"
 
 __all__ = [
-    "PRIMES", "Answer", "AnswerCutOff", "ArrangeError", "Arrangement", "BadInput", "Certificate", "ChainStep", "Comparison",
-    "ExteriorElement", "Factored", "Field", "Flat", "Freeness", "GradedVector", "Lattice", "Limit", "Limits",
-    "LocalComponent", "MatroidDiffers", "ModularChain", "MultiRestriction", "OverRationals", "Polynomial", "PrintedAnswer", "Program", "ProgramError",
-    "ProgramFailed", "ProgramMismatch", "ProgramMissing", "Question", "RationalFreeness", "Refusal", "Resolution",
-    "ResolutionMap", "Ring", "SearchStopped", "TimeOut", "Triple", "Value", "ask", "compare_primes", "factored",
-    "faults_of_cofactor", "matrix_text", "over_rationals", "polynomial_in_t", "read_answers", "use",
+    "PRIMES", "Answer", "AnswerCutOff", "ArrangeError", "Arrangement", "BadInput", "Certificate", "ChainStep",
+    "Comparison", "ExteriorElement", "Factored", "Field", "Flat", "Freeness", "GradedVector", "Lattice", "Limit",
+    "Limits", "LocalComponent", "MatroidDiffers", "ModularChain", "MultiRestriction", "OverRationals", "Polynomial",
+    "PrintedAnswer", "Program", "ProgramError", "ProgramFailed", "ProgramMismatch", "ProgramMissing", "Question",
+    "RationalFreeness", "Refusal", "Resolution", "ResolutionMap", "Ring", "SearchStopped", "TimeOut", "Triple",
+    "Value", "ask", "compare_primes", "factored", "faults_of_cofactor", "matrix_text", "over_rationals",
+    "polynomial_in_t", "read_answers", "use",
 ]

@@ -159,8 +159,8 @@ class Freeness:
 class Certificate:
     """Whether the module of logarithmic derivations is free, shown by a basis and its cofactor matrix.
 
-    Both products of the matrix whose rows are the basis and the cofactor matrix are Q times the identity, where Q is the
-    product of the forms with their multiplicities. Where it is not free there is the number of generators alone.
+    Both products of the matrix whose rows are the basis and the cofactor matrix are Q times the identity, where Q is
+    the product of the forms with their multiplicities. Where it is not free there is the number of generators alone.
     """
 
     is_free: bool
@@ -179,7 +179,7 @@ class Certificate:
 
 @dataclass(frozen=True)
 class ModularChain:
-    """Whether an arrangement is supersolvable: with a maximal chain of modular flats and the exponents that it shows."""
+    """Whether an arrangement is supersolvable: with a maximal chain of modular flats and its exponents."""
 
     is_supersolvable: bool
     flats: Tuple[Flat, ...] = ()
@@ -191,7 +191,7 @@ class ModularChain:
 
 @dataclass(frozen=True)
 class MultiRestriction:
-    """What an arrangement cuts out of a hyperplane: the forms with Ziegler's multiplicities, and whether they are free."""
+    """What an arrangement cuts out of a hyperplane: forms with Ziegler's multiplicities, and whether they are free."""
 
     forms: Tuple[Tuple[int, ...], ...]
     multiplicities: Tuple[int, ...]

@@ -79,7 +79,7 @@ class Arrangement(Decided):
     def _of_forms(
         cls, forms: List[FormLike], field: Field, variables: Variables, is_cone: bool, is_affine: bool = False
     ) -> Arrangement:
-        """The arrangement of some forms: central ones, or with `is_cone` such with constants, as they are or their cone."""
+        """The arrangement of some forms: central ones, or with `is_cone` such with constants or their cone."""
         numbers = 0
         if forms and foreign.is_of_sympy(forms[0]):
             names = _names_of_sympy(forms, variables)
@@ -257,7 +257,8 @@ class Arrangement(Decided):
 
     def __str__(self) -> str:
         count = self.build.count()
-        many = "a restriction" if count is None else f"{count} {'affine ' * self.is_affine}hyperplane{'s' * (count != 1)}"
+        kind = "affine hyperplane" if self.is_affine else "hyperplane"
+        many = "a restriction" if count is None else f"{count} {kind}{'s' * (count != 1)}"
         text = _shown(self.build, self.field)
         return f"{many} in {', '.join(self.variables)} over {self.field}: {text}"
 
@@ -282,7 +283,9 @@ class Arrangement(Decided):
             flats = self.flats() if self.rank() == 3 else []
         except ArrangeError:
             return None
-        return picture("lines_picture", self.hyperplanes(), flats, self.field.prime, "the arrangement") if flats else None
+        if not flats:
+            return None
+        return picture("lines_picture", self.hyperplanes(), flats, self.field.prime, "the arrangement")
 
     # ---- what may be asked of them
 

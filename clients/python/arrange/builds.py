@@ -15,7 +15,7 @@ Row = Tuple[Fraction, ...]
 
 @dataclass(frozen=True)
 class Forms:
-    """Linear forms by their coefficients; or affine ones by these and the constant, for the cone over them or as they are.
+    """Linear forms by their coefficients; or affine ones by these and the constant, or the cone over them.
 
     The numbers are integers and fractions; where `characteristic` is a prime they are residues modulo it.
     """

@@ -1,4 +1,4 @@
-"""Chains of free arrangements: inductive freeness, which the lattice of flats decides, and free arrangements step by step."""
+"""Chains of free arrangements: inductive freeness, which the lattice decides, and free arrangements step by step."""
 from __future__ import annotations
 
 from dataclasses import dataclass
@@ -40,9 +40,9 @@ class ChainStep:
 class InductiveSearch:
     """Which restrictions and deletions of an arrangement are inductively free, from its lattice of flats.
 
-    Exponents go down from the whole arrangement: where one is free with exponents E, and a restriction has b hyperplanes
-    fewer than it, then b is in E, E without b are the exponents of the restriction, and E with b - 1 in place of b those of
-    the deletion. So all that is chosen are the hyperplanes.
+    Exponents go down from the whole arrangement: where one is free with exponents E, and a restriction has b
+    hyperplanes fewer than it, then b is in E, E without b are the exponents of the restriction, and E with b - 1 in
+    place of b those of the deletion. So all that is chosen are the hyperplanes.
     """
 
     def __init__(self, lattice: Lattice, most: int = MOST_STATES) -> None:
@@ -116,7 +116,7 @@ def essential_exponents(freeness: Freeness) -> Exponents:
 
 
 def inductive_chain(arrangement: Arrangement, most: int = MOST_STATES) -> Optional[List[ChainStep]]:
-    """The hyperplanes in an order in which each may be added, or None where the arrangement is not inductively free.
+    """The hyperplanes in an order in which each may be added, or None where it is not inductively free.
 
     Each step is one of the addition theorem: the arrangement before it and the restriction are inductively free, with
     exponents that fit.

@@ -1,4 +1,4 @@
-"""What an arrangement has besides its questions: its lattice, arrangements made from it, and what the answers decide."""
+"""What an arrangement has besides its questions: its lattice, arrangements made from it, what the answers decide."""
 from __future__ import annotations
 
 from fractions import Fraction
@@ -22,6 +22,7 @@ if TYPE_CHECKING:
     from .arrangements import Arrangement
 
 FlatLike = Union[Flat, Iterable[int]]
+AFFINE = "its hyperplanes are affine, and this is asked of central ones, such as its cone"
 
 
 class Decided:
@@ -35,7 +36,7 @@ class Decided:
     def _central(self) -> Arrangement:
         """The arrangement where its hyperplanes all go through the origin by what they are made of."""
         if self._arrangement.is_affine:
-            raise BadInput("arrangement", "its hyperplanes are affine, and this is asked of central ones, such as its cone")
+            raise BadInput("arrangement", AFFINE)
         return self._arrangement
 
     # ---- the lattice of flats
@@ -72,10 +73,10 @@ class Decided:
         return self._arrangement.poincare()(1)
 
     def bounded_regions(self) -> int:
-        """How many of them are bounded where one hyperplane, whichever, is at infinity and lines of the centre are points.
+        """How many of them are bounded where one hyperplane, whichever, is at infinity, and the centre a point.
 
-        It is Crapo's invariant, from the characteristic polynomial: its derivative, without the factors t, at 1. Of affine
-        hyperplanes it is how many of their own regions are, the absolute value of that polynomial at 1.
+        It is Crapo's invariant, from the characteristic polynomial: its derivative, without the factors t, at 1. Of
+        affine hyperplanes it is how many of their own regions are, the absolute value of that polynomial at 1.
         """
         whole = self._arrangement.characteristic().coefficients()
         if self._arrangement.is_affine:
@@ -211,7 +212,8 @@ class Decided:
         found = []
         for row in rows[: check - 1] + rows[check:]:
             constant = row[last] * pow(own[last], -1, prime) % prime
-            found.append((*((a - constant * b) % prime for k, (a, b) in enumerate(zip(row, own)) if k != last), constant))
+            others = ((a - constant * b) % prime for k, (a, b) in enumerate(zip(row, own)) if k != last)
+            found.append((*others, constant))
         return found
 
     # ---- as sets of hyperplanes
@@ -233,8 +235,8 @@ class Decided:
     def issubset(self, other: Arrangement) -> bool:
         """Whether all its hyperplanes are among those of the other."""
         arrangement = self._arrangement
-        same = (other.field, other.dimension, other.is_affine) == (arrangement.field, arrangement.dimension, arrangement.is_affine)
-        return same and self.hyperplane_set() <= other.hyperplane_set()
+        one, two = ((it.field, it.dimension, it.is_affine) for it in (arrangement, other))
+        return one == two and self.hyperplane_set() <= other.hyperplane_set()
 
     # ---- freeness
 
@@ -263,7 +265,7 @@ class Decided:
         return verification.faults_of_freeness(forms, numbers, answer, arrangement.field.prime)
 
     def inductive_chain(self, most: int = chains.MOST_STATES) -> Optional[List[chains.ChainStep]]:
-        """The hyperplanes in an order that shows inductive freeness, or None where the arrangement is not inductively free.
+        """The hyperplanes in an order that shows inductive freeness, or None where it is not inductively free.
 
         `free` and `flats` are asked. Where more arrangements would have to be gone through than `most`, SearchStopped
         is raised.
@@ -290,7 +292,7 @@ class Decided:
     # ---- over the rationals
 
     def has_good_reduction(self) -> bool:
-        """Whether its rational forms have the same matroid, so that each combinatorial answer is one over the rationals.
+        """Whether its rational forms have the same matroid, so that combinatorial answers are those over the rationals.
 
         >>> from arrange import Arrangement
         >>> Arrangement.forms("x, y, x + 32003*y", 31).has_good_reduction()

@@ -1,4 +1,4 @@
-"""Families of arrangements from the literature, each made from its definition; and those of examples/gallery by name."""
+"""Families of arrangements from the literature, each from its definition; and those of examples/gallery by name."""
 from __future__ import annotations
 
 import pathlib
@@ -135,12 +135,14 @@ def positive_roots(cartan: Sequence[Sequence[int]]) -> List[Numbers]:
 
 
 def monomial(order: int, part: int, rank: int, field: FieldLike) -> Arrangement:
-    """The reflection arrangement of the group G(r, p, l): x_i - w x_j for the roots w of order r, and x_i where p is not r.
+    """The reflection arrangement of the group G(r, p, l): x_i - w x_j where w^r is 1, and x_i where p is not r.
 
     The field has to have the roots: r divides the number of its elements minus 1.
 
-    >>> print(monomial(3, 3, 3, 31).factored_characteristic(), monomial(3, 1, 3, 31).factored_characteristic(), sep=" | ")
-    (t - 1)*(t - 4)^2 | (t - 1)*(t - 4)*(t - 7)
+    >>> for part in (3, 1):
+    ...     print(monomial(3, part, 3, 31).factored_characteristic())
+    (t - 1)*(t - 4)^2
+    (t - 1)*(t - 4)*(t - 7)
     """
     over = field_of(field)
     prime = over.prime
@@ -201,5 +203,7 @@ def _built(build: str, field: FieldLike) -> Arrangement:
     if word in ("forms", "cone"):
         rows = [row.split() for row in inside.split(",") if row.strip()]
         return (Arrangement.cone if word == "cone" else Arrangement.forms)(rows, field, int(size))
-    made = {"typeA": Arrangement.type_a, "typeB": Arrangement.type_b, "typeD": Arrangement.type_d, "boolean": Arrangement.boolean}
+    made = {
+        "typeA": Arrangement.type_a, "typeB": Arrangement.type_b, "typeD": Arrangement.type_d, "boolean": Arrangement.boolean,
+    }
     return made[word](int(size), field)

@@ -11,7 +11,7 @@ from .linear_forms import parse_form
 
 
 def rows_in(forms: Any) -> Any:
-    """The rows of a matrix of sympy or an array of numpy, over which one does not go row by row; anything else itself."""
+    """The rows of a matrix of sympy or an array of numpy, which are not gone over by rows; anything else itself."""
     return forms.tolist() if hasattr(forms, "tolist") and hasattr(forms, "shape") else forms
 
 

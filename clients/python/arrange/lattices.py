@@ -1,4 +1,4 @@
-"""The lattice of flats of an arrangement, and what it alone decides: it is worked out here from the flats that are given."""
+"""The lattice of flats of an arrangement, and what it alone decides, worked out here from the flats that are given."""
 from __future__ import annotations
 
 from collections import Counter
@@ -44,7 +44,8 @@ class Lattice:
 
     def _check(self) -> None:
         ends = (self._levels[0], self._levels[-1])
-        if not self.flats or not all(self._levels) or len(self._places) < len(self.flats) or any(len(it) != 1 for it in ends):
+        is_one_each = all(len(it) == 1 for it in ends) and len(self._places) == len(self.flats)
+        if not self.flats or not all(self._levels) or not is_one_each:
             raise BadInput("flats", "these are not all flats of an arrangement")
 
     # ---- its flats
@@ -228,7 +229,7 @@ class Lattice:
         return self._above[flat]
 
     def whitney(self, kind: int = 1) -> List[int]:
-        """The Whitney numbers by rank: of the first kind, the sums of the Möbius values, or of the second, how many flats.
+        """The Whitney numbers by rank: of the first kind, sums of Möbius values, or of the second, how many flats.
 
         >>> from arrange import Arrangement
         >>> lattice = Arrangement.type_a(3).lattice()
@@ -238,7 +239,7 @@ class Lattice:
         return [self.doubly_indexed(0, rank, kind) for rank in range(self.rank + 1)]
 
     def doubly_indexed(self, low: int, high: int, kind: int = 1) -> int:
-        """The sum of the Möbius values of all pairs of a flat of one rank below one of another; or how many they are."""
+        """The sum of the Möbius values of all pairs of a flat of one rank below one of another; or their number."""
         if kind not in (1, 2):
             raise BadInput("kind", f"{kind!r} is none of 1 and 2")
         if not 0 <= low <= self.rank or not 0 <= high <= self.rank:
@@ -272,7 +273,7 @@ class Lattice:
         return [flat for k, flat in enumerate(self.flats) if self._is_modular(k, len(self) - 1)]
 
     def modular_chain(self) -> Optional[List[Flat]]:
-        """A maximal chain of modular flats, or None where there is none: it is one exactly of a supersolvable arrangement.
+        """A maximal chain of modular flats, or None where the arrangement is not supersolvable.
 
         >>> from arrange import Arrangement
         >>> [str(it) for it in Arrangement.boolean(2).lattice().modular_chain()]
@@ -300,10 +301,10 @@ class Lattice:
         x^3 + y^3 + 3*x^2 + 4*x*y + 3*y^2 + 2*x + 2*y
         """
         x, y = Ring(None, ("x", "y")).generators()
-        return sum(
-            (many * (x - 1) ** (self.rank - rank) * (y - 1) ** (size - rank) for (rank, size), many in self._ranked_sets().items()),
-            x.ring.number(0),
-        )
+        total = x.ring.number(0)
+        for (rank, size), many in self._ranked_sets().items():
+            total = total + many * (x - 1) ** (self.rank - rank) * (y - 1) ** (size - rank)
+        return total
 
     def _ranked_sets(self) -> Dict[Tuple[int, int], int]:
         """How many sets of hyperplanes have each rank and size: those that span a flat are counted by inversion."""
@@ -359,7 +360,7 @@ class Lattice:
     # ---- flats that look alike
 
     def kinds(self) -> List[Tuple[Flat, ...]]:
-        """The flats in parts, by rank: those of a part are on as many hyperplanes, and have as many covers in each part.
+        """The flats in parts by rank: those of a part are on as many hyperplanes, with as many covers in each part.
 
         It is the coarsest such partition. Flats that a symmetry exchanges are of one kind.
 
@@ -370,10 +371,9 @@ class Lattice:
         colours = [(flat.rank, len(flat.hyperplanes)) for flat in self.flats]
         kinds = _numbered(colours)
         while True:
-            refined = _numbered([
-                (kinds[k], tuple(sorted(kinds[it] for it in self._upper[k])), tuple(sorted(kinds[it] for it in self._lower[k])))
-                for k in range(len(self))
-            ])
+            above = [tuple(sorted(kinds[it] for it in those)) for those in self._upper]
+            below = [tuple(sorted(kinds[it] for it in those)) for those in self._lower]
+            refined = _numbered(list(zip(kinds, above, below)))
             if max(refined) == max(kinds):
                 break
             kinds = refined

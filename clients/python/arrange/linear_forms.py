@@ -106,7 +106,8 @@ def named(names: Sequence[str]) -> Tuple[str, ...]:
 
 
 def _variables_in(texts: Iterable[str]) -> Tuple[str, ...]:
-    return variables_among(name for k, text in enumerate(texts, 1) for _, _, name in terms_of(text, f"form {k}") if name)
+    terms = (it for k, text in enumerate(texts, 1) for it in terms_of(text, f"form {k}"))
+    return variables_among(name for _, _, name in terms if name)
 
 
 def variables_among(given: Iterable[str]) -> Tuple[str, ...]:

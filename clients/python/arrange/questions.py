@@ -175,7 +175,7 @@ def _multiplicities(arrangement: Arrangement, multiplicities: Multiplicities) ->
     if multiplicities is None:
         return ""
     if isinstance(multiplicities, str):
-        raise BadInput("multiplicities", f"{multiplicities!r} is a text, and a list of numbers or one for all is wanted")
+        raise BadInput("multiplicities", f"{multiplicities!r} is a text, and a list of numbers is wanted")
     if not isinstance(multiplicities, Iterable):
         multiplicities = [multiplicities] * len(arrangement)
     numbers = [whole_number(it, f"multiplicity {i}") for i, it in enumerate(multiplicities, 1)]

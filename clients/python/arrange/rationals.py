@@ -99,7 +99,7 @@ def has_good_reduction(arrangement: Arrangement) -> bool:
     if len(rows) != len(arrangement):
         return False
     if arrangement.is_affine:
-        raise BadInput("arrangement", "its hyperplanes are affine, and this is asked of central ones, such as its cone")
+        raise BadInput("arrangement", "its hyperplanes are affine, and this is asked of central ones")
     flats = arrangement.flats()
     return all(rank_over_rationals([rows[i - 1] for i in it.hyperplanes]) == it.rank for it in flats)
 
@@ -108,8 +108,8 @@ def has_good_reduction(arrangement: Arrangement) -> bool:
 class OverRationals:
     """An arrangement over the rationals by one over a prime field at which it has good reduction.
 
-    `at` is that arrangement: what `rank`, `flats`, `poincare`, `characteristic`, `triple`, `circuits` and `nbc` say of it
-    is so over the rationals, as they depend on the matroid alone.
+    `at` is that arrangement: what `rank`, `flats`, `poincare`, `characteristic`, `triple`, `circuits` and `nbc` say of
+    it is so over the rationals, as they depend on the matroid alone.
     """
 
     at: Arrangement
@@ -119,7 +119,7 @@ class OverRationals:
         return self.at.field.prime
 
     def freeness(self) -> RationalFreeness:
-        """What is known of the freeness over the rationals, by the freeness at the prime and the characteristic polynomial.
+        """What is known of freeness over the rationals, by that at the prime and by the characteristic polynomial.
 
         >>> from arrange import Arrangement, over_rationals
         >>> print(over_rationals(Arrangement.forms(["x", "y", "x - y"])).freeness())
@@ -131,7 +131,8 @@ class OverRationals:
             return RationalFreeness(True, free.exponents, why)
         factors = factored(self.at.characteristic())
         if not factors.splits():
-            return RationalFreeness(False, None, f"the factor {factors.rest} of its characteristic polynomial has no integer root")
+            why = f"the factor {factors.rest} of its characteristic polynomial has no integer root"
+            return RationalFreeness(False, None, why)
         why = f"it is not free at {self.prime}, and that decides nothing over the rationals"
         return RationalFreeness(None, None, why)
 

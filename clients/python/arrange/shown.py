@@ -1,4 +1,4 @@
-"""What notebooks show of arrangements and answers: tables as HTML, and pictures where the package arrange_draw is beside this one."""
+"""What notebooks show: tables as HTML, and pictures where the package arrange_draw is beside this one."""
 from __future__ import annotations
 
 import html

@@ -1,7 +1,7 @@
 """Answers of freeness checked by this package's own arithmetic: nothing of them is taken from the program.
 
-By Saito's criterion homogeneous logarithmic derivations, as many as there are variables, whose degrees have the sum of the
-multiplicities, are a basis exactly where their determinant is not zero. That is shown by a point at which the matrix of
+By Saito's criterion homogeneous logarithmic derivations, as many as there are variables, whose degrees have the sum of
+the multiplicities, are a basis exactly where their determinant is not zero. That is shown by a point at which the matrix of
 their values has an inverse, or by a cofactor matrix: one whose product with theirs is the identity times the product of
 the forms with their multiplicities.
 """
@@ -100,8 +100,9 @@ def faults_of_cofactor(
     zero = inside.number(0)
     wanted = [[whole if i == j else zero for j in range(size)] for i in range(size)]
     rows = [it.entries for it in basis]
-    for first, second, order in ((rows, cofactor, "the basis and the cofactors"), (cofactor, rows, "the cofactors and the basis")):
+    for first, second in ((rows, cofactor), (cofactor, rows)):
         if product(first, second, inside) != wanted:
+            order = "the basis and the cofactors" if first is rows else "the cofactors and the basis"
             faults.append(f"the product of {order} is not the product of the forms times the identity")
     return faults
 

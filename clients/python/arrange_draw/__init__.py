@@ -7,6 +7,6 @@ from .real_lines import given_lines, real_lines
 from .real_numbers import real_rows
 
 __all__ = [
-    "Look", "betti_picture", "differences", "given_lines", "kinds_picture", "lattice_of", "lattice_picture", "lines_picture",
-    "real_lines", "real_rows",
+    "Look", "betti_picture", "differences", "given_lines", "kinds_picture", "lattice_of", "lattice_picture",
+    "lines_picture", "real_lines", "real_rows",
 ]
