@@ -32,7 +32,8 @@ class Program:
     """The program at a path, and after how many seconds a run of it is ended.
 
     Without a path it is the one that the environment variable ARRANGE names; else the built program of the checkout in
-    which this package stands; else `arrange` on the PATH.
+    which this package stands; else `arrange` on the PATH. Where that is the command PREFIX/bin/arrange, which explains
+    refusals to people, the program itself is taken, PREFIX/libexec/arrange/arrange.
     """
 
     path: Union[str, os.PathLike[str], None] = None
@@ -58,13 +59,14 @@ class Program:
 
 
 def _found(name: str) -> str:
-    if os.path.isdir(name):
+    if os.sep in name and os.path.isdir(name):
         raise ProgramMissing(f"{name}: this is a folder, and the program is a file in it")
     found = shutil.which(name)
     if found is None:
         why = "it may not be run" if os.path.exists(name) else "there is no such program; ARRANGE may name it"
         raise ProgramMissing(f"{name}: {why}")
-    return found
+    bare = pathlib.Path(found).resolve().parents[1] / "libexec/arrange/arrange"
+    return str(bare) if os.access(bare, os.X_OK) else found
 
 
 class Run:

@@ -77,6 +77,21 @@ class Missing(StandIn):
             os.environ.pop("ARRANGE", None)
             self.fails(ProgramMissing, Program(), "is not built")
 
+    def test_installed(self):
+        """The command that is installed has its program beside it, wherever it is named or found."""
+        for name in ("bin/arrange", "libexec/arrange/arrange"):
+            path = self.folder / name
+            path.parent.mkdir(parents=True)
+            path.write_text("#!/bin/sh\nexit 0\n")
+            path.chmod(stat.S_IRWXU)
+        bare = str((self.folder / "libexec/arrange/arrange").resolve())
+        self.assertEqual(Program(str(self.folder / "bin/arrange")).place(), bare)
+        self.assertEqual(Program(bare).place(), bare)
+        with mock.patch.dict(os.environ, {"ARRANGE": "arrange", "PATH": str(self.folder / "bin")}):
+            self.assertEqual(Program().place(), bare)
+        os.unlink(bare)
+        self.assertEqual(Program(str(self.folder / "bin/arrange")).place(), str(self.folder / "bin/arrange"))
+
     def test_could_not_be_built(self):
         failed = self.fails(ProgramFailed, self.program("echo 'a build needs rt' >&2\nexit 8"), "could not be built", "a build needs rt")
         self.assertEqual((failed.status, failed.signal), (8, None))

@@ -1,0 +1,2 @@
+" Scripts of the program arrange.
+autocmd BufRead,BufNewFile *.arr setfiletype arrange
