@@ -21,7 +21,7 @@ from pygments.lexers.python import PythonLexer
 from sphinx.application import Sphinx
 
 MOST_FLATS = 60
-MOST_LINES = 60  # of an answer that is shown at once
+MOST_LINES = 60  # of the answers that are shown
 
 
 def forms_of(script: str, name: str) -> Tuple[int, List[Tuple[int, ...]]]:
@@ -72,9 +72,9 @@ class Gallery(Directive):
             env.note_dependency(str(part))
         section = nodes.section(ids=[nodes.make_id(file.stem)], names=[file.stem])
         section += nodes.title("", file.stem)
-        comments = re.match(r"(?:#.*\n)*", script)
-        said = " ".join(re.sub(r"^# ?", "", it) for it in comments[0].splitlines()) if comments else ""
-        section += nodes.paragraph("", said)
+        comments = [it for it in script.split("\nfield ")[0].splitlines() if it.startswith("#")]
+        section += nodes.paragraph("", " ".join(it.lstrip("# ") for it in comments))
+        script = "".join(script.splitlines(keepends=True)[len(comments) :])
         beside = nodes.container(classes=["beside"])
         code = nodes.literal_block(script, script)
         code["language"] = "arrange"
