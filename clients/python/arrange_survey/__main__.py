@@ -6,9 +6,10 @@ import pathlib
 import sys
 from typing import List, Optional
 
-from arrange import ArrangeError
+from arrange import ArrangeError, BadInput
 
-from .plan import jobs_of, primes_of, questions_of, read_plan, write_plan
+from .batches import jobs_together
+from .plan import Plan, jobs_of, primes_of, questions_of, read_plan, silent, write_plan
 from .results import DATABASE, SHEET, collect, summary
 from .running import Running, part_of, run_jobs
 from .sources import sources_of
@@ -36,6 +37,8 @@ def parser() -> argparse.ArgumentParser:
     add("--build", action="append", default=[], metavar="'typeA 1..5'", help="an arrangement, or a range of them")
     add("--primes", default="", metavar="P,P", help="the fields; of a script its own where they are left out")
     add("--ask", default="", metavar="'Q; Q'", help="the questions; of a script its own where they are left out")
+    add("--questions", type=pathlib.Path, metavar="FILE", help="a file with a further question in each line")
+    add("--together", type=int, metavar="N", help="at most so many jobs in one script (from 1 to 100 by how many there are)")
     add("--out", required=True, type=pathlib.Path, metavar="OUT", help="the folder of the survey")
     add("--only", choices=("plan", "run", "collect"), help="one step alone; run and collect take the plan in OUT")
     add = words.add_argument_group("the limits of a job").add_argument
@@ -53,24 +56,35 @@ def parser() -> argparse.ArgumentParser:
     return words
 
 
+def planned(options: argparse.Namespace) -> Plan:
+    """The plan that the words ask for, which is written, or found in the folder."""
+    sources = sources_of(options.sources, options.build)
+    more = options.questions.read_text(encoding="utf-8") if options.questions else ""
+    jobs = jobs_of(sources, primes_of(options.primes), questions_of(f"{options.ask};{more}"))
+    if not jobs:
+        raise BadInput("sources", "none of them asks anything")
+    if options.together is not None and options.together < 1:
+        raise BadInput("--together", f"{options.together} is less than 1")
+    plan = Plan(jobs, options.together or jobs_together(len(jobs)))
+    write_plan(plan, options.out)
+    print(f"{len(jobs)} jobs over {len(sources)} sources, in {options.out}")
+    for place in silent(sources, jobs):
+        print(f"{place} asks nothing")
+    return plan
+
+
 def survey(options: argparse.Namespace) -> int:
     """Plans, runs and collects, or does one of these alone. The exit status is 3 where jobs are left."""
-    if options.only in ("run", "collect"):
-        jobs = read_plan(options.out)
-    else:
-        sources = sources_of(options.sources, options.build)
-        jobs = jobs_of(sources, primes_of(options.primes), questions_of(options.ask))
-        write_plan(jobs, options.out)
-        print(f"{len(jobs)} jobs over {len(sources)} sources, in {options.out}")
+    plan = read_plan(options.out) if options.only in ("run", "collect") else planned(options)
     left = 0
     if options.only in (None, "run"):
         how = Running(
             options.jobs, options.seconds, options.megabytes, options.nice, options.machine, part_of(options.part),
             options.again, sys.stderr.isatty() and not options.quiet, options.program, options.parallel,
         )
-        left = run_jobs(jobs, options.out, how)
+        left = run_jobs(plan, options.out, how)
     if options.only in (None, "collect"):
-        print(summary(collect(jobs, options.out)))
+        print(summary(collect(plan, options.out)))
         print(f"{options.out / DATABASE} and {options.out / SHEET} have the table")
     return 3 if left else 0
 

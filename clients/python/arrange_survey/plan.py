@@ -1,10 +1,10 @@
-"""The jobs of a survey: one script for each arrangement, prime and question, in a folder of their own."""
+"""The jobs of a survey: each an arrangement, a prime and a question, or a script with its own questions."""
 from __future__ import annotations
 
 import json
 import pathlib
-from dataclasses import asdict, dataclass
-from typing import Iterator, List, Sequence, Tuple
+from dataclasses import asdict, dataclass, replace
+from typing import Iterator, List, Sequence
 
 from arrange import BadInput
 from arrange.fields import PRIMES
@@ -12,15 +12,18 @@ from arrange.questions import WORDS
 
 from .sources import Source, field_of, names_in, over, questions_in, without_questions
 
-PLAN = "plan.json"
+PLAN = "plan.jsonl"
 SCRIPTS = "scripts"
-Unnumbered = Tuple[str, str, str, int, str, int, str]
 OWN = "its own"  # the question of a script whose own questions are asked
 
 
 @dataclass(frozen=True)
 class Job:
-    """A run of the program: its number, where its arrangement comes from, and its script with so many questions."""
+    """What one script asks: its number, where its arrangement comes from, and the script with so many questions.
+
+    `build` is what stands behind `let A =`, or empty where the arrangement comes from a script; `name` is that of the
+    arrangement in the script, or empty where a script's own questions are asked.
+    """
 
     number: int
     source: str
@@ -30,18 +33,28 @@ class Job:
     question: str
     asked: int
     script: str
+    name: str
 
     def file(self) -> str:
-        return f"{SCRIPTS}/{self.number:06}.arr"
+        """Where the script stands where the job is asked alone."""
+        return f"{SCRIPTS}/j{self.number:06}.arr"
+
+    def before(self) -> str:
+        """The script without the line of the question."""
+        return self.script[: self.script.rindex("\n", 0, -1) + 1]
+
+    def head(self, name: str) -> str:
+        """How the answer begins where the arrangement has the name."""
+        return f"{self.question.split()[0]} {name}"
 
 
 def questions_of(text: str) -> List[str]:
-    """The questions of the command line, split at `;`.
+    """The questions of the command line, split at `;`, or those of a file, one in each line.
 
     >>> questions_of("free; triple 1")
     ['free', 'triple 1']
     """
-    questions = [" ".join(it.split()) for it in text.split(";") if it.strip()]
+    questions = [" ".join(it.split()) for it in text.replace("\n", ";").split(";") if it.strip()]
     for question in questions:
         if question.split()[0] not in WORDS:
             raise BadInput("questions", f"{question!r} begins with none of {', '.join(WORDS)}")
@@ -57,33 +70,40 @@ def primes_of(text: str) -> List[int]:
 
 
 def jobs_of(sources: Sequence[Source], primes: Sequence[int], questions: Sequence[str]) -> List[Job]:
-    """The jobs in the order of the sources, then of the primes, then of the questions."""
+    """The jobs in the order of the sources, then of the primes, then of the questions. A script may ask nothing."""
     jobs: List[Job] = []
     for source in sources:
-        if not source.script and not (primes and questions):
+        if source.script is None and not (primes and questions):
             raise BadInput(source.place, "an arrangement of a list needs --primes and --ask")
         for job in _jobs_of_one(source, primes, questions):
-            jobs.append(Job(len(jobs) + 1, *job))
+            jobs.append(replace(job, number=len(jobs) + 1))
     return jobs
 
 
-def _jobs_of_one(source: Source, primes: Sequence[int], questions: Sequence[str]) -> Iterator[Unnumbered]:
-    """All of a job but its number."""
-    own = field_of(source.script)
-    for prime in primes or [own]:
-        if not source.script:
+def _jobs_of_one(source: Source, primes: Sequence[int], questions: Sequence[str]) -> Iterator[Job]:
+    """The jobs of a source, without their numbers."""
+    if source.script is None:
+        for prime in primes:
             head = f"field {prime}\nlet A = {source.build}\n"
             for question in questions:
-                yield source.place, source.name, source.build, prime, question, 1, head + asking(question, "A")
-            continue
+                script = head + asking(question, "A")
+                yield Job(0, source.place, source.name, source.build, prime, question, 1, script, "A")
+        return
+    own = field_of(source.script)
+    for prime in primes or [own]:
         script = over(source.script, prime) if prime != own else source.script
-        if not questions:
-            yield source.place, source.name, "", prime, OWN, questions_in(script), script
-            continue
-        for name in names_in(script):
+        if not questions and questions_in(script):
+            yield Job(0, source.place, source.name, "", prime, OWN, questions_in(script), script, "")
+        for name in names_in(script) if questions else ():
             for question in questions:
                 text = without_questions(script) + asking(question, name)
-                yield source.place, f"{source.name}.{name}", "", prime, question, 1, text
+                yield Job(0, source.place, f"{source.name}.{name}", "", prime, question, 1, text, name)
+
+
+def silent(sources: Sequence[Source], jobs: Sequence[Job]) -> List[str]:
+    """The scripts that ask nothing: of which there is no job."""
+    asking_ones = {job.source for job in jobs}
+    return [source.place for source in sources if source.place not in asking_ones]
 
 
 def asking(question: str, name: str) -> str:
@@ -99,24 +119,32 @@ def asking(question: str, name: str) -> str:
 # ---- in a folder
 
 
-def write_plan(jobs: Sequence[Job], folder: pathlib.Path) -> None:
-    """Writes the plan and its scripts, or finds the same plan there. Another plan in the folder is left as it is."""
-    plan = folder / PLAN
-    text = json.dumps([asdict(job) for job in jobs], indent=0) + "\n"
-    if plan.exists():
-        if plan.read_text(encoding="utf-8") != text:
+@dataclass(frozen=True)
+class Plan:
+    """The jobs of a survey, and how many of them may stand in one script."""
+
+    jobs: List[Job]
+    together: int
+
+
+def write_plan(plan: Plan, folder: pathlib.Path) -> None:
+    """Writes the plan, or finds the same plan there. Another plan in the folder is left as it is."""
+    file = folder / PLAN
+    lines = [json.dumps({"together": plan.together}), *(json.dumps(asdict(job)) for job in plan.jobs)]
+    text = "".join(line + "\n" for line in lines)
+    if file.exists():
+        if file.read_text(encoding="utf-8") != text:
             raise BadInput(str(folder), "another survey is there; name another folder, or remove this one")
         return
-    (folder / SCRIPTS).mkdir(parents=True, exist_ok=True)
-    for job in jobs:
-        (folder / job.file()).write_text(job.script, encoding="utf-8")
-    new = plan.with_name(PLAN + "-new")
+    folder.mkdir(parents=True, exist_ok=True)
+    new = file.with_name(PLAN + "-new")
     new.write_text(text, encoding="utf-8")
-    new.replace(plan)
+    new.replace(file)
 
 
-def read_plan(folder: pathlib.Path) -> List[Job]:
-    plan = folder / PLAN
-    if not plan.exists():
+def read_plan(folder: pathlib.Path) -> Plan:
+    file = folder / PLAN
+    if not file.exists():
         raise BadInput(str(folder), f"there is no survey in it: {PLAN} is missing")
-    return [Job(**it) for it in json.loads(plan.read_text(encoding="utf-8"))]
+    head, *jobs = file.read_text(encoding="utf-8").splitlines()
+    return Plan([Job(**json.loads(it)) for it in jobs], json.loads(head)["together"])

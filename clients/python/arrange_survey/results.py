@@ -6,12 +6,13 @@ import pathlib
 import sqlite3
 from collections import Counter
 from dataclasses import asdict, dataclass, fields
-from typing import Dict, Iterable, List, Optional
+from typing import Dict, Iterable, Iterator, List, Optional
 
 from arrange import ArrangeError, Limit, Refusal, read_answers
 
-from .plan import Job
-from .running import OUTPUT, Ended, ended_jobs
+from .batches import Batch, batches_of
+from .plan import Job, Plan
+from .running import Ended, batch_answers, ended_scripts, output_of
 
 DATABASE = "results.sqlite"
 TABLE = "results"
@@ -23,7 +24,10 @@ STATUSES = ("answered", "limit", "refused", "time", "memory", "killed", "failed"
 
 @dataclass(frozen=True)
 class Result:
-    """A job with its answer. The answer is what was printed; where the status is not `answered` it may be a part."""
+    """A job with its answer. The answer is what its script prints; where the status is not `answered` it may be a part.
+
+    The time and the exit status are those of the run that answered it, together with other jobs or alone.
+    """
 
     number: int
     source: str
@@ -39,33 +43,51 @@ class Result:
     machine: str
     began: Optional[float]
     said: str
+    together: Optional[int]
 
 
-def collect(jobs: Iterable[Job], folder: pathlib.Path) -> List[Result]:
+def collect(plan: Plan, folder: pathlib.Path) -> List[Result]:
     """Reads the logs and outputs of a survey, and writes the table."""
-    ended = ended_jobs(folder)
-    results = [_result(job, ended.get(job.file()), folder / OUTPUT / f"{job.number:06}") for job in jobs]
+    ended = ended_scripts(folder)
+    results = [it for batch in batches_of(plan.jobs, plan.together) for it in _results(batch, ended, folder)]
+    results.sort(key=lambda it: it.number)
     _write_sheet(results, folder / SHEET)
     _write_database(results, folder / DATABASE)
     return results
 
 
-def _result(job: Job, end: Optional[Ended], output: pathlib.Path) -> Result:
-    answer = _text(output) if end else ""
-    said = _text(output.with_name(output.name + ".err")).strip() if end else ""
-    what = (job.number, job.source, job.arrangement, job.build, job.prime, job.question, job.script)
+def _results(batch: Batch, ended: Dict[str, Ended], folder: pathlib.Path) -> Iterator[Result]:
+    """The results of a batch: what its run has answered, and the others by what became of them alone."""
+    end = ended.get(batch.file())
+    if end is None or len(batch.jobs) == 1:
+        yield from (_result(job, batch.file(), end, folder) for job in batch.jobs)
+        return
+    said = output_of(batch.file(), folder, ".err").strip()
+    answers = batch_answers(batch, folder, end)
+    for job, answer in zip(batch.jobs, answers):
+        status = status_of_text(answer, job.asked, job.prime)
+        yield _row(job, answer, status, end, said, len(answers))
+    for job in batch.jobs[len(answers):]:
+        yield _result(job, job.file(), ended.get(job.file()), folder)
+
+
+def _result(job: Job, file: str, end: Optional[Ended], folder: pathlib.Path) -> Result:
+    """The result of a job that was run by itself in the script, or was not run."""
     if end is None:
-        return Result(*what, "", "not run", None, None, "", None, "")
-    status = status_of(end, answer, job.asked, job.prime)
-    return Result(*what, answer, status, end.seconds, end.status, end.machine, end.began, said)
+        return _row(job, "", "not run", None, "", None)
+    answer = output_of(file, folder)
+    return _row(job, answer, status_of(end, answer, job.asked, job.prime), end, output_of(file, folder, ".err").strip(), 1)
 
 
-def _text(file: pathlib.Path) -> str:
-    return file.read_text(encoding="utf-8", errors="replace") if file.exists() else ""
+def _row(job: Job, answer: str, status: str, end: Optional[Ended], said: str, together: Optional[int]) -> Result:
+    what = (job.number, job.source, job.arrangement, job.build, job.prime, job.question, job.script, answer, status)
+    if end is None:
+        return Result(*what, None, None, "", None, "", None)
+    return Result(*what, end.seconds, end.status, end.machine, end.began, said, together)
 
 
 def status_of(end: Ended, answer: str, asked: int, prime: int) -> str:
-    """What became of a job: answered, only where each of its questions has an answer that can be read."""
+    """What became of a job that was run by itself: answered, only where each of its questions has an answer."""
     if end.status == TIME:
         return "time"
     if end.status == MEMORY:
@@ -74,11 +96,16 @@ def status_of(end: Ended, answer: str, asked: int, prime: int) -> str:
         return "killed"
     if end.status not in (0, REFUSED):
         return "failed"
+    return status_of_text(answer, asked, prime, end.status == REFUSED)
+
+
+def status_of_text(answer: str, asked: int, prime: int, is_refused: bool = False) -> str:
+    """What a printed text tells of a job that asked so much, where its run ended with the status of a refusal or with 0."""
     try:
         values = [it.value for it in read_answers(answer.splitlines(keepends=True), prime or None)]
     except ArrangeError:
         return "unreadable"
-    if end.status == REFUSED:
+    if is_refused:
         return "refused" if values and isinstance(values[-1], Refusal) else "unreadable"
     if len(values) != asked or any(isinstance(it, Refusal) for it in values):
         return "unreadable"
@@ -95,7 +122,8 @@ def _write_sheet(results: Iterable[Result], sheet: pathlib.Path) -> None:
 def _write_database(results: Iterable[Result], database: pathlib.Path) -> None:
     """Writes the table anew."""
     names = [it.name for it in fields(Result)]
-    kinds = {"number": "INTEGER PRIMARY KEY", "prime": "INTEGER", "seconds": "REAL", "exit": "INTEGER", "began": "REAL"}
+    kinds = dict.fromkeys(("prime", "exit", "together"), "INTEGER")
+    kinds |= {"number": "INTEGER PRIMARY KEY", "seconds": "REAL", "began": "REAL"}
     columns = ", ".join(f"{name} {kinds.get(name, 'TEXT')}" for name in names)
     connection = sqlite3.connect(database)
     with connection:
@@ -107,13 +135,14 @@ def _write_database(results: Iterable[Result], database: pathlib.Path) -> None:
 
 
 def summary(results: List[Result]) -> str:
-    """How many jobs have each status, and the seconds of all and of the longest."""
+    """How many jobs have each status, how many runs there were, and the seconds of all of them and of the longest."""
     counts: Dict[str, int] = Counter(it.status for it in results)
     parts = [f"{counts[status]} {status}" for status in STATUSES if counts.get(status)]
-    timed = [it for it in results if it.seconds is not None]
     text = f"{len(results)} jobs: {', '.join(parts)}"
-    if timed:
-        longest = max(timed, key=lambda it: it.seconds or 0)
-        text += f"; {sum(it.seconds or 0 for it in timed):.1f} seconds of work, the longest {longest.seconds:.1f}"
-        text += f" ({longest.question} of {longest.arrangement} at {longest.prime})"
+    runs = {(it.machine, it.began, it.seconds, it.together): it for it in results if it.together}
+    if runs:
+        longest = max(runs.values(), key=lambda it: it.seconds or 0)
+        others = f" and {longest.together - 1} more" if longest.together and longest.together > 1 else ""
+        text += f"; {len(runs)} runs with answers, {sum(it.seconds or 0 for it in runs.values()):.1f} seconds"
+        text += f", the longest {longest.seconds:.1f} ({longest.question} of {longest.arrangement} at {longest.prime}{others})"
     return text

@@ -1,4 +1,8 @@
-"""The jobs of a survey run by GNU parallel: on this machine, on several by ssh, or in parts as tasks of Slurm."""
+"""The jobs of a survey run by GNU parallel: on this machine, on several by ssh, or in parts as tasks of Slurm.
+
+First the batches are run, and then, each by itself, the jobs that their batch has not answered. Each of the two has its
+list of scripts and its log, and so has each part.
+"""
 from __future__ import annotations
 
 import os
@@ -7,15 +11,18 @@ import re
 import shutil
 import subprocess
 from dataclasses import dataclass, field
-from typing import Dict, List, Optional, Sequence, Tuple
+from typing import Dict, List, Optional, Sequence, Set, Tuple
 
 from arrange import ArrangeError, BadInput, Program
 
-from .plan import Job
+from .batches import Batch, answers_in, batches_of
+from .interrupts import in_session
+from .plan import SCRIPTS, Job, Plan
 
 OUTPUT = "output"
 JOBS = "jobs"
 LOG = "joblog"
+ALONE = "-alone"
 AFTER = 5  # seconds from the signal that ends a job to the one that kills it
 LIMITED = 'ulimit -v "$1" && exec timeout -k {after} "$2" "$3" < "$4"'
 
@@ -26,7 +33,7 @@ class NoParallel(ArrangeError):
 
 @dataclass(frozen=True)
 class Running:
-    """How the jobs are run: how many at once, the limits of each, and on which machines."""
+    """How the scripts are run: how many at once, the limits of each, and on which machines."""
 
     at_once: str = "100%"
     seconds: float = 60
@@ -41,7 +48,7 @@ class Running:
 
 
 def part_of(text: str) -> Tuple[int, int]:
-    """Which part of the jobs a run takes.
+    """Which part of the batches a run takes.
 
     >>> part_of("3/16")
     (3, 16)
@@ -52,34 +59,61 @@ def part_of(text: str) -> Tuple[int, int]:
     return int(found[1]), int(found[2])
 
 
-def run_jobs(jobs: Sequence[Job], folder: pathlib.Path, how: Running) -> int:
-    """Runs the jobs that the log does not have yet, and gives how many of the part's jobs the log has not at the end."""
+def run_jobs(plan: Plan, folder: pathlib.Path, how: Running) -> int:
+    """Runs what the logs do not have yet, and gives how many of the part's jobs are not settled at the end."""
     _check_parallel()
     k, parts = how.part
-    mine = jobs[k - 1::parts]
+    mine = batches_of(plan.jobs, plan.together)[k - 1::parts]
     ending = "" if parts == 1 else f".{k}-of-{parts}"
+    scripts = {batch.file(): batch.script for batch in mine}
+    repeated = {batch.file() for batch in mine if len(batch.jobs) == 1} if how.again else set()
+    left = _run_scripts(scripts, folder, ending, how, repeated)
+    ended = ended_scripts(folder)
+    if left:
+        return sum(len(batch.jobs) for batch in mine if batch.file() not in ended)
+    alone = {job.file(): job.script for batch in mine for job in unanswered(batch, folder, ended[batch.file()])}
+    return _run_scripts(alone, folder, ALONE + ending, how, set(alone) if how.again else set()) if alone else 0
+
+
+def unanswered(batch: Batch, folder: pathlib.Path, end: Ended) -> Sequence[Job]:
+    """The jobs that a batch of several, which has ended so, has not answered. They are asked alone."""
+    return batch.jobs[len(batch_answers(batch, folder, end)):] if len(batch.jobs) > 1 else ()
+
+
+def batch_answers(batch: Batch, folder: pathlib.Path, end: Ended) -> List[str]:
+    """The answers of the first jobs of a batch. Where its run did not end well the last may be cut off, and is left out."""
+    return answers_in(batch, output_of(batch.file(), folder), end.status == end.signal == 0)
+
+
+def _run_scripts(
+    scripts: Dict[str, str], folder: pathlib.Path, ending: str, how: Running, repeated: Set[str]
+) -> int:
+    """Runs the scripts that the log does not have yet, and gives how many it has not at the end.
+
+    Those to be repeated are run again where they did not end with status 0.
+    """
     files = folder / (JOBS + ending)
-    files.write_text("".join(job.file() + "\n" for job in mine), encoding="utf-8")
-    _make_ready(mine, folder, folder / (LOG + ending), how.again)
+    files.write_text("".join(file + "\n" for file in scripts), encoding="utf-8")
+    log = folder / (LOG + ending)
+    (folder / SCRIPTS).mkdir(exist_ok=True)
+    for file in _make_ready(list(scripts), folder, log, repeated):
+        (folder / file).write_text(scripts[file], encoding="utf-8")
     environment = {**os.environ, "PARALLEL_SHELL": "/bin/sh"}
-    command = [*command_of(how, LOG + ending), "::::", files.name]
-    try:
-        ended = subprocess.run(command, cwd=folder, env=environment, stdout=subprocess.DEVNULL)
-    except KeyboardInterrupt:
-        raise ArrangeError("interrupted; the same command goes on where it was cut off") from None
-    left = len(mine) - len(_logged(folder / (LOG + ending)))
-    if left and ended.returncode > 101:
-        raise ArrangeError(f"GNU parallel ended with status {ended.returncode}, and {left} jobs are left")
+    status = in_session([*command_of(how, log.name), "::::", files.name], folder, environment)
+    left = len(scripts) - len(_logged(log))
+    if left and status > 101:
+        raise ArrangeError(f"GNU parallel ended with status {status}, and {left} scripts are left")
     return left
 
 
-def _make_ready(jobs: Sequence[Job], folder: pathlib.Path, log: pathlib.Path, again: bool) -> None:
-    """Takes away what a cut left: the beginning of a last line in the log, and outputs of jobs that the log has not.
+def _make_ready(files: Sequence[str], folder: pathlib.Path, log: pathlib.Path, repeated: Set[str]) -> List[str]:
+    """Takes away what a cut left: the beginning of a last line in the log, and outputs of scripts that the log has not.
 
-    GNU parallel would take these jobs for done. With `again` those that did not end with status 0 are taken away too.
+    GNU parallel would take these scripts for done. It gives the scripts that are to be run.
     """
     (folder / OUTPUT).mkdir(exist_ok=True)
-    done = {number for number, end in _logged(log).items() if not again or end.status == end.signal == 0}
+    logged = _logged(log)
+    done = {k for k, end in logged.items() if end.status == end.signal == 0 or files[k - 1] not in repeated}
     if log.exists():
         head, *lines = log.read_text(encoding="utf-8").splitlines(keepends=True) or [""]
         head = head if head.endswith("\n") else ""
@@ -87,10 +121,11 @@ def _make_ready(jobs: Sequence[Job], folder: pathlib.Path, log: pathlib.Path, ag
         short = log.with_name(log.name + "-short")
         short.write_text("".join([head, *kept]), encoding="utf-8")
         short.replace(log)
-    for number, job in enumerate(jobs, 1):
-        if number not in done:
-            for ending in ("", ".err", ".seq"):
-                (folder / OUTPUT / f"{job.number:06}{ending}").unlink(missing_ok=True)
+    left = [file for k, file in enumerate(files, 1) if k not in done]
+    for file in left:
+        for tail in ("", ".err", ".seq"):
+            (folder / OUTPUT / (pathlib.Path(file).stem + tail)).unlink(missing_ok=True)
+    return left
 
 
 def command_of(how: Running, log: str) -> List[str]:
@@ -120,12 +155,12 @@ def _check_parallel() -> None:
         raise NoParallel(f"GNU parallel is not there; {where}")
 
 
-# ---- what the logs have
+# ---- what the logs and outputs have
 
 
 @dataclass(frozen=True)
 class Ended:
-    """How a job ended: its exit status, the signal where one ended it, its seconds, its machine, and when it began."""
+    """How a run ended: its exit status, the signal where one ended it, its seconds, its machine, and when it began."""
 
     status: int
     signal: int
@@ -134,18 +169,25 @@ class Ended:
     began: float
 
 
-def ended_jobs(folder: pathlib.Path) -> Dict[str, Ended]:
-    """The jobs in all logs of a survey, by their scripts. Of a job that was run again the last run counts."""
+def ended_scripts(folder: pathlib.Path) -> Dict[str, Ended]:
+    """The runs in all logs of a survey, by their scripts. Of a script that was run again the last run counts."""
     ended: Dict[str, Ended] = {}
     for log in sorted(folder.glob(LOG + "*")):
-        files = (folder / (JOBS + log.name[len(LOG):])).read_text(encoding="utf-8").split()
+        listed = folder / (JOBS + log.name[len(LOG):])
+        files = listed.read_text(encoding="utf-8").split() if listed.exists() else []
         for number, line in _logged(log).items():
             ended[files[number - 1]] = line
     return ended
 
 
+def output_of(file: str, folder: pathlib.Path, tail: str = "") -> str:
+    """What the run of a script printed, or with the tail `.err` what it said on standard error."""
+    output = folder / OUTPUT / (pathlib.Path(file).stem + tail)
+    return output.read_text(encoding="utf-8", errors="replace") if output.exists() else ""
+
+
 def _logged(log: pathlib.Path) -> Dict[int, Ended]:
-    """The whole lines of a log by the number of the job."""
+    """The whole lines of a log by the number of the script in its list."""
     lines: Dict[int, Ended] = {}
     text = log.read_text(encoding="utf-8") if log.exists() else ""
     for line in text.splitlines(keepends=True)[1:]:

@@ -12,7 +12,7 @@ from __future__ import annotations
 import pathlib
 import re
 from dataclasses import dataclass
-from typing import Iterable, Iterator, List, Sequence
+from typing import Iterable, Iterator, List, Optional, Sequence
 
 from arrange import BadInput
 
@@ -29,12 +29,15 @@ QUESTION = re.compile(r"\s*(?!field\b|let\b|limit\b)[A-Za-z]")
 
 @dataclass(frozen=True)
 class Source:
-    """An arrangement or a script: where it comes from, its name, what stands behind `let A =`, or the script's text."""
+    """An arrangement or a script: where it comes from, its name, what stands behind `let A =`, or the script's text.
+
+    The text of a script may be empty; of an arrangement there is none.
+    """
 
     place: str
     name: str
     build: str = ""
-    script: str = ""
+    script: Optional[str] = None
 
 
 def sources_of(paths: Sequence[str], builds: Iterable[str] = ()) -> List[Source]:
