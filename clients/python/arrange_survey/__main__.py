@@ -29,8 +29,9 @@ The same command goes on where it was cut off. The table stands in OUT/results.s
 
 def parser() -> argparse.ArgumentParser:
     words = argparse.ArgumentParser(
-        "arrange-survey", description="Asks the same questions of many arrangements at several primes, by GNU parallel.",
-        epilog=EPILOG, formatter_class=argparse.RawDescriptionHelpFormatter,
+        "arrange-survey", epilog=EPILOG,
+        description="Asks the same questions of many arrangements at several primes, by GNU parallel.",
+        formatter_class=argparse.RawDescriptionHelpFormatter,
     )
     add = words.add_argument
     add("sources", nargs="*", metavar="FOLDER", help="folders or files with scripts or lists of arrangements")
@@ -38,7 +39,7 @@ def parser() -> argparse.ArgumentParser:
     add("--primes", default="", metavar="P,P", help="the fields; of a script its own where they are left out")
     add("--ask", default="", metavar="'Q; Q'", help="the questions; of a script its own where they are left out")
     add("--questions", type=pathlib.Path, metavar="FILE", help="a file with a further question in each line")
-    add("--together", type=int, metavar="N", help="at most so many jobs in one script (from 1 to 100 by how many there are)")
+    add("--together", type=int, metavar="N", help="at most so many jobs in a script (1 to 100, by how many there are)")
     add("--out", required=True, type=pathlib.Path, metavar="OUT", help="the folder of the survey")
     add("--only", choices=("plan", "run", "collect"), help="one step alone; run and collect take the plan in OUT")
     add = words.add_argument_group("the limits of a job").add_argument
@@ -47,7 +48,7 @@ def parser() -> argparse.ArgumentParser:
     add = words.add_argument_group("where and how the jobs are run").add_argument
     add("--jobs", default="100%", help="how many at once on a machine, or a share of its processors (100%%)")
     add("--machine", action="append", default=[], metavar="[N/]HOST", help="a machine as of parallel's --sshlogin")
-    add("--program", metavar="PATH", help="the program, instead of the one that ARRANGE names; on a machine its path there")
+    add("--program", metavar="PATH", help="the program, instead of the one of ARRANGE; on a machine its path there")
     add("--nice", type=int, default=0, help="the niceness of the jobs (0)")
     add("--part", default="1/1", metavar="K/N", help="run part K of N, as a task of a Slurm array does")
     add("--again", action="store_true", help="run again what did not end with status 0")

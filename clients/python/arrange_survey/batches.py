@@ -1,8 +1,8 @@
 """Batches: many jobs of a prime in one script, and the answers of each in what that script printed.
 
-A run of the program costs some milliseconds before it answers anything. So jobs that have the field, and where they come
-from scripts all lines but the question, in common are asked in one script. An arrangement of a list has a name of its own
-there, `A` with its job's number, and the question is the job's:
+A run of the program costs some milliseconds before it answers anything. So jobs that have the field, and where they
+come from scripts all lines but the question, in common are asked in one script. An arrangement of a list has a name of
+its own there, `A` with its job's number, and the question is the job's:
 
     field 31                     free A1: yes
     let A1 = typeA 2             ..
@@ -10,8 +10,8 @@ there, `A` with its job's number, and the question is the job's:
     let A2 = boolean 2
     rank A2
 
-The printed text is split at the heads of the answers. What a run has not answered, since it was ended or refused, is asked
-again: each job by a run of its own.
+The printed text is split at the heads of the answers. What a run has not answered, since it was ended or refused, is
+asked again: each job by a run of its own.
 """
 from __future__ import annotations
 
@@ -89,7 +89,7 @@ def _batch(number: int, jobs: Sequence[Job]) -> Batch:
 def split_answers(text: str, heads: Sequence[str], is_whole: bool) -> List[str]:
     """The answers in a printed text up to the first that is missing or may be cut off, by how each must begin.
 
-    Where the text is not whole, its last answer may go on, and only what stands before the next head or a refusal counts.
+    Where the text is not whole its last answer may go on: only what stands before the next head or a refusal counts.
 
     >>> split_answers("rank A1: 2\\nflats A2: 1\\n0: {}\\n", ["rank A1", "flats A2"], True)
     ['rank A1: 2\\n', 'flats A2: 1\\n0: {}\\n']

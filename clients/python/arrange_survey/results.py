@@ -76,7 +76,8 @@ def _result(job: Job, file: str, end: Optional[Ended], folder: pathlib.Path) -> 
     if end is None:
         return _row(job, "", "not run", None, "", None)
     answer = output_of(file, folder)
-    return _row(job, answer, status_of(end, answer, job.asked, job.prime), end, output_of(file, folder, ".err").strip(), 1)
+    said = output_of(file, folder, ".err").strip()
+    return _row(job, answer, status_of(end, answer, job.asked, job.prime), end, said, 1)
 
 
 def _row(job: Job, answer: str, status: str, end: Optional[Ended], said: str, together: Optional[int]) -> Result:
@@ -100,7 +101,7 @@ def status_of(end: Ended, answer: str, asked: int, prime: int) -> str:
 
 
 def status_of_text(answer: str, asked: int, prime: int, is_refused: bool = False) -> str:
-    """What a printed text tells of a job that asked so much, where its run ended with the status of a refusal or with 0."""
+    """What a printed text tells of a job that asked so much, where its run ended well or with a refusal."""
     try:
         values = [it.value for it in read_answers(answer.splitlines(keepends=True), prime or None)]
     except ArrangeError:
@@ -143,6 +144,7 @@ def summary(results: List[Result]) -> str:
     if runs:
         longest = max(runs.values(), key=lambda it: it.seconds or 0)
         others = f" and {longest.together - 1} more" if longest.together and longest.together > 1 else ""
+        which = f"{longest.question} of {longest.arrangement} at {longest.prime}{others}"
         text += f"; {len(runs)} runs with answers, {sum(it.seconds or 0 for it in runs.values()):.1f} seconds"
-        text += f", the longest {longest.seconds:.1f} ({longest.question} of {longest.arrangement} at {longest.prime}{others})"
+        text += f", the longest {longest.seconds:.1f} ({which})"
     return text

@@ -81,7 +81,7 @@ def unanswered(batch: Batch, folder: pathlib.Path, end: Ended) -> Sequence[Job]:
 
 
 def batch_answers(batch: Batch, folder: pathlib.Path, end: Ended) -> List[str]:
-    """The answers of the first jobs of a batch. Where its run did not end well the last may be cut off, and is left out."""
+    """The answers of the first jobs of a batch. Where its run ended badly the last is left out: it may be cut off."""
     return answers_in(batch, output_of(batch.file(), folder), end.status == end.signal == 0)
 
 
