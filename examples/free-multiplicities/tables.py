@@ -135,6 +135,20 @@ def markdown(columns: Sequence[str], rows: Iterable[Sequence[object]]) -> str:
     return "".join(f"|{it.replace(' ', '')}|\n" if set(it) <= set("-| ") else f"| {it} |\n" for it in parts)
 
 
+def page_tables(folder: pathlib.Path) -> Dict[str, str]:
+    """The tables of the page, by their names, from the counts in a folder: on A3 by prime, on A4 by prime and kind."""
+    tables: Dict[str, str] = {}
+    if (folder / "a3-counts.csv").exists():
+        counts = ["asked", "free", "only_here", "only_in_0", "other_exponents"]
+        rows = sums(read_table(folder / "a3-counts.csv"), ["prime"], counts)
+        heads = ["prime", "asked", "free", "free here alone", "free in characteristic 0 alone", "other exponents"]
+        tables["A3"] = markdown(heads, rows)
+    if (folder / "a4-counts.csv").exists():
+        rows = sums(read_table(folder / "a4-counts.csv"), ["prime", "kind"], ["asked", "free", "other_exponents"])
+        tables["A4"] = markdown(["prime", "kind", "asked", "free", "other exponents"], rows)
+    return tables
+
+
 def sums(rows: Iterable[Dict[str, str]], keys: Sequence[str], counts: Sequence[str]) -> List[Tuple[object, ...]]:
     """The sums of some columns over the rows with the same keys, in the order in which the keys come."""
     found: Dict[Tuple[str, ...], List[int]] = {}
