@@ -7,10 +7,10 @@ from typing import Callable, Dict, List, NamedTuple, Sequence, Tuple
 from arrange_draw.svg import INK, PALE, Picture
 from tables import read_table
 
-MARGIN, GAP = 24.0, 48.0
+MARGIN, GAP, NARROWEST = 24.0, 48.0, 680.0
 CELL_WIDTH, CELL_HEIGHT, HEAD = 88.0, 42.0, 118.0
 TITLE = 58.0  # the height of what stands over the cells of a panel
-WHITE, RED, BLUE = (255, 255, 255), (214, 96, 77), (67, 147, 195)
+WHITE, RED, BLUE = (255, 255, 255), (226, 124, 104), (128, 184, 218)
 Colour = Tuple[int, int, int]
 
 
@@ -45,7 +45,7 @@ def picture_of(folder: pathlib.Path) -> Picture:
         ("a3-counts.csv", differences_panel), ("a4-counts.csv", kinds_panel),
     ]
     panels = [make(read_table(folder / name)) for name, make in makers if (folder / name).exists()]
-    width = max(panel.width() for panel in panels) + 2 * MARGIN
+    width = max([NARROWEST, *(panel.width() for panel in panels)]) + 2 * MARGIN
     height = sum(panel.height() for panel in panels) + GAP * (len(panels) - 1) + 2 * MARGIN
     picture = Picture(width, height, "Free multiplicities on the braid arrangements")
     top = MARGIN
