@@ -147,7 +147,8 @@ class Asked(unittest.TestCase):
             self.assertEqual(arrangement.faults(free, multiplicities), [])
             self.assertTrue(arrangement.verify(free, multiplicities))
             if len(arrangement):
-                self.assertFalse(arrangement.delete(1).verify(free, None if multiplicities is None else list(range(1, len(arrangement)))))
+                others = None if multiplicities is None else list(range(2, len(arrangement) + 1))
+                self.assertFalse(arrangement.delete(1).verify(free, others))
 
     def test_certificate(self):
         x, y = LINES.ring.generators()
