@@ -18,6 +18,7 @@ version = release = next(
 root_doc = "docs/site/index"
 include_patterns = [
     "README.md", "CONTRIBUTING.md", "docs/*.md", "docs/manual/*.md", "docs/site/*.md", "examples/README.md",
+    "examples/*/README.md",
     "clients/**/README.md",
 ]
 extensions = ["myst_parser", "sphinx.ext.autodoc", "gallery"]

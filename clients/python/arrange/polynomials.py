@@ -147,8 +147,8 @@ class Polynomial(Text):
     """A polynomial as its `ring` and `terms`, from exponents to coefficients, without zeros.
 
     Modulo a prime the coefficients are residues. Where it is written they are of least absolute value, and the terms
-    stand from the greatest in the graded reverse lexicographic order. It has +, -, * and **, and // and % by a
-    polynomial whose greatest term has a coefficient with an inverse, such as a form.
+    stand from the greatest in the graded reverse lexicographic order. It has sums, products, powers, and quotients and
+    remainders by a polynomial whose greatest term has a coefficient with an inverse, such as a form.
 
     >>> square = Polynomial(Ring(31, ("x1", "x2")), {(1, 1): 1, (0, 2): 30})
     >>> print(square)
